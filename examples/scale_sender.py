@@ -1,18 +1,24 @@
 #!/usr/bin/env python3
 """Sends the weights of a scale to a lane of `hall .. --remote P`, each until it is acknowledged.
 
-usage: scale_sender.py PORT [--host H] [--first N] [--seconds S] < WEIGHTS
+usage: scale_sender.py PORT [--host H] [--first N] [--seconds S]
+                            [--book URL --lane L [--login FILE]] < WEIGHTS
 
 WEIGHTS has a weight in grams a line: 1 to 8 digits, and at most three behind a point. What is no
-weight is left out and told on standard error, since it would end the lane. Weights are numbered
-from 1 (`1 251.000`), and the line behind the last says `end`. A line is said, and said again over a
-new connection where none of its acknowledgements comes within S seconds (5), or the connection
-ends. Each line that was acknowledged goes to standard output.
+weight, a line of more than 64 bytes and a weight over 30 kg are left out and reported on standard
+error, since they would end the lane. The line behind the last weight says `end`. Each line that was
+acknowledged goes to standard output, with its number.
 
-A weight is acknowledged when its row is kept in the book, so one that isn't will be weighed by the
-next hall. That hall begins with the number 1 again, and so does this: it knows that a hall is gone
-where its port refuses a connection, also while the scale is silent. Where something in between
-takes the connection in the hall's place, begin this anew with each hall.
+Weights are numbered from 1 (`1 251.000`), by each hall anew. A line is said, and said again over a
+new connection where no acknowledgement comes within S seconds (5), or the connection ends. Whether
+the hall of a new connection is another one is seen from its answer: the first line there is the
+weight that isn't acknowledged with the number 1. A new hall takes it, and one that goes on says
+again how many it has taken. So this goes on over any restart of the hall, behind a tunnel too.
+
+One case the lines alone can't tell: a hall took a weight, it ended, and its acknowledgement was lost
+on the way. The next hall takes the weight again, and standard error reports it. With --book this
+asks the book first whether lane L has the weight: at a door (http://127.0.0.1:8471), or at the front
+(https://NAME/hall), where FILE has `NAME:PASSWORD` of a person who may look.
 
 --first N is for who begins this anew while the hall stays: the number behind the last one that was
 acknowledged.
@@ -21,21 +27,36 @@ Status 0: the end was acknowledged. 1: it wasn't, and the hall is gone; the lane
 2: the words are wrong. 3: the hall has taken more than this has said, so see --first."""
 
 import argparse
+import base64
+import enum
+import http.client
 import os
 import re
 import select
 import socket
 import sys
 import time
+import urllib.parse
+from collections.abc import Iterator
 
-WEIGHT = re.compile(rb"[0-9]{1,8}(\.[0-9]{1,3})?")
+WEIGHT = re.compile(rb"([0-9]{1,8})(?:\.([0-9]{1,3}))?")
 ACKNOWLEDGED = re.compile(rb"ack ([0-9]+)")
+# The longest line of a scale, without its end, and more bytes than an acknowledgement has.
+MAX_LINE = 64
+# The most that a pack weighs, in mg: a greater weight would end the lane.
+MOST_GROSS = 30_000_000
 # How long to wait before a connection is tried again, in seconds.
 RETRY = 0.1
 # How long a hall that is gone is waited for once the end was said, in seconds.
-LAST_WAIT = 10
-# More bytes of an acknowledgement than there are.
-MAX_LINE = 64
+LAST_WAIT = 10.0
+# How long a hall is silent that passes a number over, in seconds; it leaves a connection after 10.
+SILENCE = 5.0
+# How often a number is said in that time.
+TIMES = 3
+# Behind how many acknowledgements it is noted how many rows the book has.
+MARK_EVERY = 50
+# How long the book is asked in vain before a weight is said without that, in seconds.
+ASK_WAIT = 30.0
 
 
 class Gone(Exception):
@@ -46,133 +67,400 @@ class Ahead(Exception):
     """The hall has taken more than was said."""
 
 
+class Answer(enum.Enum):
+    """What came of a line: it is acknowledged, or the hall waits for another number, or nothing."""
+
+    DONE = enum.auto()
+    OTHER_NUMBER = enum.auto()
+    SILENCE = enum.auto()
+
+
+def report(said: str) -> None:
+    print(f"scale_sender: {said}", file=sys.stderr, flush=True)
+
+
+def milligrams(weight: bytes) -> int | None:
+    """What a text of grams says, or nothing where it is none."""
+    found = WEIGHT.fullmatch(weight)
+    return int(found[1] + (found[2] or b"").ljust(3, b"0")) if found else None
+
+
+# ---- which number a line has
+
+
+class Numbers:
+    """Which number a line has, and what an acknowledgement says of it.
+
+    A hall that has taken so many lines takes the one with the next number, answers one with an
+    earlier number by how many it has taken, and passes a later one over. Where a connection is new
+    its hall may be a new one, that has taken none. The line with the number 1 is answered by 1
+    where a new hall took it, and otherwise by how many were taken. These two are alike where one was
+    acknowledged so far: then the number 2 comes first, which a new hall passes over in silence, and
+    1 only behind that.
+
+    No number is said that a hall which has the line already would take.
+    """
+
+    def __init__(self, acknowledged: int):
+        self.acknowledged = acknowledged
+        # the numbers under which the line is still to be tried on a new connection, and those under
+        # which it was said
+        self.tries: list[int] = []
+        self.said: set[int] = set()
+        # whether the hall of this connection is known to have taken what was acknowledged
+        self.in_step = False
+
+    def connect(self) -> None:
+        """The connection is a new one."""
+        self.in_step = False
+        if not self.tries:
+            self.tries = [2, 1] if self.acknowledged == 1 else [1]
+
+    def number(self) -> int:
+        """The number to be said now."""
+        number = self.acknowledged + 1 if self.in_step else self.tries[0]
+        self.said.add(number)
+        return number
+
+    def hear(self, number: int) -> bool:
+        """Takes an acknowledgement. Says whether the line is acknowledged by it."""
+        if number in self.said:
+            self.begin_line(number)
+            self.in_step = True
+            return True
+        if number > max(self.said | {self.acknowledged}):
+            raise Ahead(number)
+        if number == self.acknowledged:
+            self.in_step = True
+            self.tries = []
+        return False
+
+    def begin_line(self, acknowledged: int) -> None:
+        """Goes on to the next line."""
+        self.acknowledged = acknowledged
+        self.tries = []
+        self.said = set()
+
+    def is_silence_told(self) -> bool:
+        """Whether silence says something: that the hall has taken fewer lines."""
+        return not self.in_step and len(self.tries) > 1
+
+    def is_next_tried(self) -> bool:
+        """There was no answer. Says whether another number is tried on the same connection."""
+        if not self.is_silence_told():
+            return False
+        del self.tries[0]
+        return True
+
+    def skip_line(self) -> None:
+        """The book has the line. The hall of this connection took it under a number under which it
+        was said, or is a new one that has taken none: the greatest number comes first, since others
+        are passed over."""
+        may_have = sorted(self.said | {0}, reverse=True)
+        self.begin_line(may_have[0])
+        self.in_step = False
+        self.tries = [number + 1 for number in may_have]
+
+
+# ---- what the book has
+
+
+class Book:
+    """What the book has of a lane, as a door or the front says."""
+
+    def __init__(self, url: str, lane: int, login: str | None, seconds: float):
+        self.url = urllib.parse.urlsplit(url)
+        self.lane = lane
+        self.seconds = seconds
+        self.headers = {}
+        if login is not None:
+            self.headers["Authorization"] = "Basic " + base64.b64encode(login.encode()).decode()
+        # how many rows the book had, and how many weights were acknowledged since
+        self.rows: int | None = None
+        self.since = 0
+        self.is_reported = False
+
+    def connect(self) -> http.client.HTTPConnection:
+        kind = http.client.HTTPSConnection if self.url.scheme == "https" else None
+        return (kind or http.client.HTTPConnection)(self.url.netloc, timeout=self.seconds)
+
+    def ask(self, link: http.client.HTTPConnection, path: str) -> list[str] | None:
+        """The words of an answer, or nothing where it is a refusal."""
+        try:
+            link.request("GET", self.url.path.rstrip("/") + path, headers=self.headers)
+            answer = link.getresponse()
+            text = answer.read().decode()
+        except http.client.HTTPException as fault:
+            raise OSError(f"no answer: {fault!r}") from fault
+        if answer.status not in (200, 409):
+            raise OSError(f"{path} is answered {answer.status}")
+        return text.split() if answer.status == 200 else None
+
+    def count_rows(self, link: http.client.HTTPConnection) -> int:
+        said = self.ask(link, "/summary")
+        if said is None or said[0] != "rows":
+            raise OSError("the summary has no rows")
+        return int(said[1])
+
+    def mark(self) -> None:
+        """Notes how many rows there are, with all that was acknowledged among them."""
+        link = self.connect()
+        try:
+            self.rows = self.count_rows(link)
+            self.since = 0
+            self.is_reported = False
+        except OSError as fault:
+            if not self.is_reported:
+                report(f"the book can't be asked: {fault}")
+            self.is_reported = True
+        finally:
+            link.close()
+
+    def note(self) -> None:
+        """A weight was acknowledged."""
+        self.since += 1
+        if self.rows is None or self.since >= MARK_EVERY:
+            self.mark()
+
+    def has_more(self) -> bool:
+        """Whether the lane has one weight more than was acknowledged, and has settled it. One that
+        isn't settled is of a hall that goes on and acknowledges it again, or is voided by the next
+        hall before it listens to the scale."""
+        if self.rows is None:
+            raise OSError("it wasn't asked before")
+        link = self.connect()
+        try:
+            packs = list(self.packs(link, self.rows, self.count_rows(link)))
+            if len(packs) != self.since + 1:
+                return False
+            lane = self.ask(link, f"/lanes/{self.lane}") or []
+            return packs[-1][-1] != "voided" and lane[-2:] != ["unsettled", packs[-1][1]]
+        finally:
+            link.close()
+
+    def packs(self, link: http.client.HTTPConnection, after: int, rows: int) -> Iterator[list[str]]:
+        """The lane's packs behind a row: `pack N batch B lane L gross G .. PILE`."""
+        for row in range(after + 1, rows + 1):
+            pack = self.ask(link, f"/packs/{row}")
+            if pack is not None and pack[5] == str(self.lane):
+                yield pack
+
+
+# ---- the sender
+
+
 class Sender:
     """Says lines to a hall, one behind the other."""
 
-    def __init__(self, address, first=1, seconds=5.0):
+    def __init__(
+        self,
+        address: tuple[str, int],
+        first: int = 1,
+        seconds: float = 5.0,
+        book: Book | None = None,
+    ):
         self.address = address
-        self.number = first
+        self.numbers = Numbers(first - 1)
         self.seconds = seconds
-        self.link = None
+        self.book = book
+        self.link: socket.socket | None = None
         self.heard = b""
-        self.halls = 1
 
-    def leave(self):
+    def leave(self) -> None:
         """Leaves the connection; what was heard on it of a line is none."""
         if self.link is not None:
             self.link.close()
         self.link = None
         self.heard = b""
 
-    def connect(self, wait=None):
-        """Connects to the hall. Where its port refuses, the next one begins with the number 1."""
+    def connect(self, wait: float | None) -> socket.socket:
+        """The connection to the hall, for which it waits."""
         began = time.monotonic()
         while self.link is None:
             try:
                 self.link = socket.create_connection(self.address, timeout=self.seconds)
                 self.link.setsockopt(socket.IPPROTO_TCP, socket.TCP_NODELAY, 1)
                 self.link.setsockopt(socket.SOL_SOCKET, socket.SO_KEEPALIVE, 1)
-            except ConnectionRefusedError:
-                self.halls += self.number != 1
-                self.number = 1
-                self.pause(began, wait)
+                self.numbers.connect()
             except OSError:
-                self.pause(began, wait)
+                if wait is not None and wait < time.monotonic() - began:
+                    raise Gone from None
+                time.sleep(RETRY)
+        return self.link
 
-    def pause(self, began, wait):
-        if wait is not None and wait < time.monotonic() - began:
-            raise Gone
-        time.sleep(RETRY)
-
-    def hear(self):
+    def hear(self, link: socket.socket) -> list[int]:
         """The numbers of the acknowledgements that came; an OSError where the line is cut."""
-        came = self.link.recv(4096)
+        came = link.recv(4096)
         if not came:
             raise ConnectionResetError
         *lines, self.heard = (self.heard + came).split(b"\n")
         found = [ACKNOWLEDGED.fullmatch(line) for line in lines]
-        if not all(found) or MAX_LINE < len(self.heard):
+        if MAX_LINE < len(self.heard):
             raise ConnectionAbortedError
-        return [int(one[1]) for one in found]
+        numbers = [int(one[1]) for one in found if one]
+        if len(numbers) < len(lines):
+            raise ConnectionAbortedError
+        return numbers
 
-    def is_acknowledged(self):
-        """Whether the present line is acknowledged in time."""
-        until = time.monotonic() + self.seconds
+    def answer(self, link: socket.socket, seconds: float) -> Answer:
+        """What comes of the present line in so many seconds."""
+        until = time.monotonic() + seconds
+        was_in_step = self.numbers.in_step
         while 0 < (left := until - time.monotonic()):
-            if not select.select([self.link], [], [], left)[0]:
-                return False
-            numbers = self.hear()
-            if any(self.number < number for number in numbers):
-                raise Ahead(max(numbers))
-            if self.number in numbers:
-                return True
-        return False
+            if not select.select([link], [], [], left)[0]:
+                break
+            # each is looked at, so that none counts for the next line
+            if any([self.numbers.hear(number) for number in self.hear(link)]):
+                return Answer.DONE
+            if self.numbers.in_step and not was_in_step:
+                return Answer.OTHER_NUMBER
+        return Answer.SILENCE
 
-    def say(self, what, wait=None):
-        """Says a line until it is acknowledged, and tells its number."""
+    def ask(self, link: socket.socket, what: bytes) -> Answer:
+        """Says a line under the present number, a few times where silence has a meaning."""
+        times = TIMES if self.numbers.is_silence_told() else 1
+        seconds = self.seconds if times == 1 else min(self.seconds, SILENCE) / TIMES
+        for _ in range(times):
+            link.sendall(b"%d %s\n" % (self.numbers.number(), what))
+            answer = self.answer(link, seconds)
+            if answer is not Answer.SILENCE:
+                return answer
+        return Answer.SILENCE
+
+    def is_said(self, link: socket.socket, what: bytes) -> bool:
+        """Says a line under each number that is to be tried here. Whether it is acknowledged."""
+        while (answer := self.ask(link, what)) is not Answer.DONE:
+            if answer is Answer.SILENCE and not self.numbers.is_next_tried():
+                return False
+        return True
+
+    def say(self, what: bytes, wait: float | None = None) -> int:
+        """Says a line until it is acknowledged, and gives its number."""
+        before, connections = self.numbers.acknowledged, 0
+        began = time.monotonic()
         while True:
             try:
-                self.connect(wait)
-                self.link.sendall(b"%d %s\n" % (self.number, what))
-                if self.is_acknowledged():
-                    self.number += 1
-                    return self.number - 1
+                link = self.connect(wait)
+                if connections > 0 and self.is_in_book(what, began):
+                    return before + 1
+                connections += 1
+                if self.is_said(link, what):
+                    break
             except OSError:
                 time.sleep(RETRY)
             self.leave()
+        number = self.numbers.acknowledged
+        if connections > 1 and number != before + 1 and self.book is None and what != b"end":
+            report(
+                f"{what.decode()} was said before to a hall that ended without acknowledging it:"
+                " see that the book hasn't it twice"
+            )
+        return number
 
-    def idle(self):
-        """Waits for the scale's next bytes, and sees meanwhile that the hall is there."""
-        self.connect()
+    def is_in_book(self, what: bytes, began: float) -> bool:
+        """Whether the book has a weight that was said before and isn't acknowledged."""
+        if self.book is None or what == b"end":
+            return False
+        try:
+            if not self.book.has_more():
+                return False
+        except OSError as fault:
+            if time.monotonic() - began < ASK_WAIT:
+                raise
+            report(f"{what.decode()} is said again, and the book can't be asked for it: {fault}")
+            return False
+        self.numbers.skip_line()
+        return True
+
+    def idle(self) -> bytes:
+        """Waits for the scale's next bytes, and leaves a connection that ends meanwhile."""
         while True:
-            ready, _, _ = select.select([0, self.link], [], [])
+            links = [] if self.link is None else [self.link]
+            ready, _, _ = select.select([0, *links], [], [])
             try:
-                if self.link in ready:
-                    self.hear()
+                if self.link in ready and self.link is not None:
+                    self.hear(self.link)
             except OSError:
                 self.leave()
-                time.sleep(RETRY)
-                self.connect()
             if 0 in ready:
                 return os.read(0, 4096)
 
 
-def weights(sender):
-    """The weights of standard input, as they come."""
-    held = b""
+# ---- the weights
+
+
+def read_lines(sender: Sender) -> Iterator[bytes]:
+    """The lines of standard input, as they come; of one that is too long its beginning."""
+    held, is_long = b"", False
     while came := sender.idle():
         *lines, held = (held + came).split(b"\n")
-        yield from lines
-    if held:
-        yield held
+        for line in lines:
+            if not is_long:
+                yield line.removesuffix(b"\r")
+            is_long = False
+        if MAX_LINE < len(held):
+            if not is_long:
+                yield held
+            held, is_long = b"", True
+    if held and not is_long:
+        yield held.removesuffix(b"\r")
 
 
-def main():
-    """Says all weights, and then the end."""
-    words = argparse.ArgumentParser(description=__doc__.split("\n", maxsplit=1)[0])
+def weights(sender: Sender) -> Iterator[bytes]:
+    """The weights of standard input; what is none is reported."""
+    for line in read_lines(sender):
+        gross = milligrams(line)
+        if gross is None:
+            report(f"no weight: {line[:MAX_LINE]!r}")
+        elif MOST_GROSS < gross:
+            report(f"over 30 kg: {line.decode()}")
+        else:
+            yield line
+
+
+def say_all(sender: Sender) -> int:
+    """Says all weights, and then the end. The status."""
+    try:
+        if sender.book is not None:
+            sender.book.mark()
+        for weight in weights(sender):
+            print(sender.say(weight), weight.decode(), flush=True)
+            if sender.book is not None:
+                sender.book.note()
+        print(sender.say(b"end", LAST_WAIT), "end", flush=True)
+    except Gone:
+        report("the hall is gone, and the end isn't acknowledged")
+        return 1
+    except Ahead as ahead:
+        taken = int(str(ahead))
+        report(f"the hall has taken {taken} lines: begin with --first {taken + 1}")
+        return 3
+    return 0
+
+
+def read_login(path: str | None) -> str | None:
+    if path is None:
+        return None
+    with open(path, encoding="utf-8") as text:
+        return text.readline().rstrip("\r\n")
+
+
+def main() -> int:
+    words = argparse.ArgumentParser(description=(__doc__ or "").split("\n", maxsplit=1)[0])
     words.add_argument("port", type=int)
     words.add_argument("--host", default="127.0.0.1")
     words.add_argument("--first", type=int, default=1)
     words.add_argument("--seconds", type=float, default=5.0)
+    words.add_argument("--book", help="a door, or the front, that is asked what the book has")
+    words.add_argument("--lane", type=int, help="the lane whose packs are asked for")
+    words.add_argument("--login", help="a file with NAME:PASSWORD, for the front")
     given = words.parse_args()
-    sender = Sender((given.host, given.port), given.first, given.seconds)
-    try:
-        for line in weights(sender):
-            weight = line.removesuffix(b"\r")
-            if not WEIGHT.fullmatch(weight):
-                print(f"scale_sender: no weight: {line[:64]!r}", file=sys.stderr, flush=True)
-                continue
-            print(sender.say(weight), weight.decode(), flush=True)
-        print(sender.say(b"end", LAST_WAIT), "end", flush=True)
-    except Gone:
-        print("scale_sender: the hall is gone, and the end isn't acknowledged", file=sys.stderr)
-        return 1
-    except Ahead as ahead:
-        print(f"scale_sender: the hall has taken {ahead} lines:"
-              f" begin with --first {int(str(ahead)) + 1}",
-              file=sys.stderr)
-        return 3
-    return 0
+    if (given.book is None) != (given.lane is None):
+        words.error("--book and --lane belong together")
+    book = None
+    if given.book is not None:
+        book = Book(given.book, given.lane, read_login(given.login), given.seconds)
+    return say_all(Sender((given.host, given.port), given.first, given.seconds, book))
 
 
 if __name__ == "__main__":

@@ -1,0 +1,161 @@
+"""A hall that is ended in good order and begun again, again and again, under load: the cases of
+tests/operation.py over pipes and over ports."""
+
+# mypy: allow-untyped-calls
+
+import os
+import time
+
+from clients import need
+
+from operation_room import (
+    NetworkScale, PipeScale, Place, Service, Tunnel, ask, grams, plan_of, wait_for, weights,
+)  # fmt: skip
+
+LANES = 2
+# Seconds between two weights of a lane, and how long a hall serves before it is ended.
+EVERY = 0.05
+SERVED = 0.4
+# How many packs a lane has, at least, for each restart.
+PACKS = 12
+
+
+def restart(place: Place, text: str, times: int, **settings: object) -> float:
+    """Ends the hall and begins it again, so often. The longest that an end took."""
+    longest = 0.0
+    for _ in range(times):
+        service = Service(place, text, LANES=LANES, **settings)
+        service.wait_until_served()
+        time.sleep(SERVED)
+        status, took = service.stop()
+        need(status == 0, f"a good end has status {status}: {service.said()} {service.errors()}")
+        longest = max(longest, took)
+    return longest
+
+
+def compare(place: Place, given: list[list[str]]) -> int:
+    """Each weight of each lane stands once, in order, and counts. How many packs there are."""
+    packs = place.packs()
+    for lane, wanted in enumerate(given, 1):
+        own = [pack for pack in packs if pack["lane"] == str(lane)]
+        odd = [pack for pack in own if (pack["signal"], pack["pile"]) != ("pass", "passed")]
+        need(not odd, f"lane {lane} has packs that don't count: {odd[:3]}")
+        stands = [pack["gross"] for pack in own]
+        need(stands == [grams(weight) for weight in wanted], difference(lane, stands, wanted))
+    return len(packs)
+
+
+def difference(lane: int, stands: list[str], wanted: list[str]) -> str:
+    """Where the packs of a lane differ first from the weights that were sent."""
+    sent = [grams(weight) for weight in wanted]
+    at = next((at for at, pair in enumerate(zip(stands, sent)) if pair[0] != pair[1]),
+              min(len(stands), len(sent)))  # fmt: skip
+    return (f"lane {lane}: {len(stands)} packs of {len(sent)} weights; from place {at} on they are"
+            f" {stands[at - 1 : at + 3]} for {sent[at - 1 : at + 3]}")  # fmt: skip
+
+
+def restarts_over_pipes(place: Place, times: int) -> None:
+    """Scales and gates over pipes, which stay open meanwhile."""
+    place.script("")
+    text = plan_of(["A", "B"])
+    first = Service(place, text, LANES=LANES)
+    first.wait_until_served()
+    given = [weights(lane, times * PACKS) for lane in range(1, LANES + 1)]
+    scales = [PipeScale(place.run, lane, given[lane - 1], EVERY) for lane in range(1, LANES + 1)]
+    for scale in scales:
+        scale.start()
+    first.stop()
+    longest = restart(place, text, times)
+    last = Service(place, text, LANES=LANES)
+    for scale in scales:
+        wait_for(scale.is_done.is_set, "a scale has sent all its weights", 3600)
+        wait_for(lambda: scale.count_opened() == len(scale.given), "each pack was let out")
+    status, _ = last.stop()
+    need(status == 0, f"the last end has status {status}: {last.errors()}")
+    count = compare(place, given)
+    rows = [int(pack["pack"]) for pack in place.packs()]
+    need(sorted(row for scale in scales for row in scale.opened) == rows, "each gate opened once")
+    print(f"    {times} good ends over pipes, {count} packs, none voided, twice or lost; the longest"
+          f" end {longest:.1f} s", flush=True)  # fmt: skip
+
+
+def restarts_over_ports(place: Place, times: int) -> None:
+    """Scales over ports, the second behind a tunnel that holds its connection."""
+    place.script("")
+    text = plan_of(["A", "B"])
+    for lane in range(1, LANES + 1):
+        os.mkfifo(f"{place.run}/gate-{lane}.txt")
+    remote = place.port + 4
+    tunnel = Tunnel(remote + 1)
+    given = [weights(lane, times * PACKS) for lane in range(1, LANES + 1)]
+    scales = [NetworkScale(place.folder, lane, port, given[lane - 1], EVERY)
+              for lane, port in ((1, remote), (2, tunnel.port))]  # fmt: skip
+    readers = [os.open(f"{place.run}/gate-{lane}.txt", os.O_RDWR | os.O_NONBLOCK)
+               for lane in range(1, LANES + 1)]  # fmt: skip
+    for scale in scales:
+        scale.start()
+    longest = restart(place, text, times, REMOTE=remote)
+    last = Service(place, text, LANES=LANES, REMOTE=remote)
+    for scale in scales:
+        status = scale.process.wait(3600)
+        need(status == 0, f"a sender ends with {status}: {scale.complaints()}")
+    status, _ = last.stop()
+    need(status == 0, f"the last end has status {status}: {last.errors()}")
+    count = compare(place, given)
+    for scale in scales:
+        need(scale.acknowledged() == [grams(weight) for weight in scale.given],
+             "each weight was acknowledged once, in order")  # fmt: skip
+    for reader in readers:
+        os.close(reader)
+    print(f"    {times} good ends over ports, {count} packs, none voided, twice or lost, no lane"
+          f" dead; the longest end {longest:.1f} s", flush=True)  # fmt: skip
+
+
+def lost_acknowledgement(place: Place) -> None:
+    """A weight that a good end settled, and whose acknowledgement is lost in a tunnel: with the book
+    asked it stands once; without it stands twice, and is reported."""
+    place.script("")
+    text = plan_of(["A", "B"])
+    for lane in range(1, LANES + 1):
+        os.mkfifo(f"{place.run}/gate-{lane}.txt")
+    readers = [os.open(f"{place.run}/gate-{lane}.txt", os.O_RDWR | os.O_NONBLOCK)
+               for lane in range(1, LANES + 1)]  # fmt: skip
+    remote = place.port + 4
+    tunnels = [Tunnel(remote), Tunnel(remote + 1)]
+    book = f"http://127.0.0.1:{place.port}"
+    words = ((), ("--book", book, "--lane", "2"))
+    service = Service(place, text, LANES=LANES, REMOTE=remote)
+    service.wait_until_served()
+    given = [weights(lane, 5) for lane in range(1, LANES + 1)]
+    scales = [NetworkScale(place.folder, lane, tunnel.port, own, 0.0, said)
+              for lane, (tunnel, own, said) in enumerate(zip(tunnels, given, words), 1)]  # fmt: skip
+    for scale in scales:
+        send(scale, 0, 3)
+        wait_for(lambda: len(scale.acknowledged()) == 3, "three weights are acknowledged")
+    for tunnel in tunnels:
+        tunnel.is_deaf = True
+    for scale in scales:
+        send(scale, 3, 4)
+    wait_for(lambda: ask(place.port, "/summary")[1].find("\nreadings 8 ") > 0, "eight packs")
+    service.stop()
+    for tunnel in tunnels:
+        tunnel.is_deaf = False
+    service = Service(place, text, LANES=LANES, REMOTE=remote)
+    for scale in scales:
+        send(scale, 4, 5)
+        assert scale.process.stdin
+        scale.process.stdin.close()
+        need(scale.process.wait(180) == 0, f"a sender: {scale.complaints()}")
+    service.stop()
+    twice = [given[0][:4] + given[0][3:], given[1]]
+    compare(place, twice)
+    need([scale.complaints().count("\n") for scale in scales] == [1, 0], "the doubt is reported")
+    for reader in readers:
+        os.close(reader)
+
+
+def send(scale: NetworkScale, begin: int, end: int) -> None:
+    assert scale.process.stdin
+    for weight in scale.given[begin:end]:
+        scale.process.stdin.write(f"{grams(weight)}\n".encode())
+        scale.process.stdin.flush()

@@ -1,0 +1,321 @@
+#!/usr/bin/env python3
+"""What examples/scale_sender.py says to halls that go on, end, are killed and begun again.
+
+usage: tests/sender.py      no program is needed: the hall is that of docs/FORMATS.md, "Remote cells"
+
+Its numbers first: every order of lines, answers, lost answers, cuts, good ends and kills up to a
+depth is gone through, beside a hall that does what FORMATS says. No weight stands twice, none is
+left out, and none is acknowledged that isn't there. Then the whole sender, as a process: lines that
+are too long and weights that are too great; a weight whose acknowledgement is lost at a good end,
+with the book asked and without. Done in 20 seconds, at most 3 minutes; status 1 at any difference.
+"""
+
+import copy
+import http.server
+import os
+import subprocess
+import sys
+import threading
+import time
+import socket
+from dataclasses import dataclass, field
+from typing import NoReturn
+
+HERE = os.path.dirname(os.path.abspath(__file__))
+SENDER = os.path.join(os.path.dirname(HERE), "examples", "scale_sender.py")
+sys.path.insert(0, os.path.dirname(SENDER))
+sys.dont_write_bytecode = True
+
+import scale_sender  # noqa: E402  pylint: disable=wrong-import-position
+
+# How many weights there are, how many steps, and how many new halls at most.
+WEIGHTS, DEPTH, HALLS = 6, 40, 5
+
+
+def fail(said: str) -> NoReturn:
+    print(f"sender: {said}", file=sys.stderr)
+    sys.exit(1)
+
+
+# ---- every order of what may happen
+
+
+@dataclass
+class World:
+    """A sender, its connection and the hall behind it."""
+
+    numbers: scale_sender.Numbers
+    # what the present hall has taken, and the rows of all halls
+    taken: int = 0
+    rows: list[int] = field(default_factory=list)
+    # the weight that the sender says, from 0, and whether it is connected
+    weight: int = 0
+    is_connected: bool = False
+    # the answers on their way, and whether a line was said that hasn't been waited for
+    answers: list[int] = field(default_factory=list)
+    was_said: bool = False
+    # whether the present weight has a row that a hall settled which ended well
+    is_settled: bool = False
+    halls: int = 0
+    steps: tuple[str, ...] = ()
+
+    def key(self) -> tuple[object, ...]:
+        known = self.numbers
+        return (known.acknowledged, tuple(known.tries), frozenset(known.said), known.in_step,
+                self.taken, tuple(self.rows), self.weight, self.is_connected,
+                tuple(self.answers), self.was_said, self.is_settled, self.halls)  # fmt: skip
+
+    def cut(self) -> None:
+        self.is_connected, self.answers, self.was_said = False, [], False
+
+    def hear_all(self) -> None:
+        while self.answers:
+            if self.numbers.hear(self.answers.pop(0)):
+                self.weight += 1
+                self.was_said = False
+
+
+def hall_hears(world: World, number: int) -> None:
+    """A line comes to the hall, as FORMATS says."""
+    if number == world.taken + 1:
+        world.taken = number
+        world.rows.append(world.weight)
+    if number <= world.taken:
+        world.answers.append(world.taken)
+
+
+def step(world: World, what: str) -> World | None:
+    """The world behind a step, or nothing where it can't be."""
+    world = copy.deepcopy(world)
+    world.steps += (what,)
+    if what == "connect" and not world.is_connected:
+        connect(world)
+    elif what in ("say", "say, cut on the way") and world.is_connected and not world.was_said:
+        number = world.numbers.number()
+        world.was_said = True
+        if what == "say":
+            hall_hears(world, number)
+        else:
+            world.cut()
+    elif what == "hear" and world.answers:
+        world.hear_all()
+        # where the hall waits for another number the line is said again
+        world.was_said = False
+    elif what == "silence" and world.was_said and not world.answers:
+        world.was_said = False
+        if not world.numbers.is_next_tried():
+            world.cut()
+    elif what == "cut" and world.is_connected:
+        world.cut()
+    elif what in ("end", "kill") and world.halls < HALLS:
+        end_hall(world, what)
+    else:
+        return None
+    return world
+
+
+def connect(world: World) -> None:
+    """A new connection. Behind a weight that was said before the book is asked, which knows it
+    where it is settled."""
+    world.is_connected = True
+    world.numbers.connect()
+    if world.is_settled:
+        world.numbers.skip_line()
+        world.weight += 1
+        world.is_settled = False
+
+
+def end_hall(world: World, what: str) -> None:
+    """A hall that ends well has its answers heard, but for those of connections that were cut. One
+    that is killed has its last pack voided where it wasn't acknowledged; what was on its way is
+    lost."""
+    world.halls += 1
+    if what == "end":
+        world.hear_all()
+        world.is_settled = world.rows[-1:] == [world.weight]
+    elif world.rows[-1:] == [world.weight] and not world.is_settled:
+        world.rows.pop()
+    world.taken = 0
+    world.cut()
+
+
+STEPS = ("connect", "say", "say, cut on the way", "hear", "silence", "cut", "end", "kill")
+
+
+def check_world(world: World) -> None:
+    told = " -> ".join(world.steps)
+    if world.rows != list(range(len(world.rows))):
+        fail(f"the book has the weights {world.rows}: {told}")
+    if len(world.rows) not in (world.weight, world.weight + 1):
+        fail(f"{world.weight} are acknowledged, the book has {world.rows}: {told}")
+
+
+def check_numbers() -> None:
+    """Goes through all worlds, and sees that from each the weight can still be acknowledged."""
+    worlds = [World(scale_sender.Numbers(0))]
+    seen = {worlds[0].key()}
+    depth = 0
+    while worlds and depth < DEPTH:
+        depth += 1
+        behind = []
+        for world in worlds:
+            check_goes_on(world)
+            for what in STEPS:
+                after = step(world, what)
+                if after is None or after.weight >= WEIGHTS or after.key() in seen:
+                    continue
+                check_world(after)
+                seen.add(after.key())
+                behind.append(after)
+        worlds = behind
+    print(f"sender: {len(seen)} states, up to {depth} steps, {WEIGHTS - 1} weights and {HALLS + 1}"
+          " halls: each weight once and in order, and a hall that stays takes the next")  # fmt: skip
+
+
+def check_goes_on(world: World) -> None:
+    """Undisturbed, the present weight is acknowledged within some steps."""
+    wanted = world.weight + 1
+    for _ in range(12):
+        if world.weight == wanted:
+            return
+        for what in ("connect", "hear", "silence", "say"):
+            after = step(world, what)
+            if after is not None:
+                world = after
+                break
+    check_world(world)
+    fail(f"the lane is dead: {' -> '.join(world.steps)}")
+
+
+# ---- the whole sender
+
+
+class Hall:
+    """A hall that takes numbered lines, and a door that says what its book has."""
+
+    def __init__(self) -> None:
+        self.rows: list[str] = []
+        self.is_deaf = False
+        self.door = http.server.ThreadingHTTPServer(("127.0.0.1", 0), self.answerer())
+        threading.Thread(target=self.door.serve_forever, daemon=True).start()
+        self.port = 0
+        self.begin()
+
+    def begin(self) -> None:
+        """Takes connections, having taken nothing."""
+        self.taken = 0
+        self.listener = socket.create_server(("127.0.0.1", self.port))
+        self.port = self.listener.getsockname()[1]
+        threading.Thread(target=self.serve, args=(self.listener,), daemon=True).start()
+
+    def serve(self, listener: socket.socket) -> None:
+        while True:
+            try:
+                link = listener.accept()[0]
+            except OSError:
+                return
+            with link, link.makefile("rb") as lines:
+                for line in lines:
+                    if not self.take(link, line.decode().split()):
+                        break
+                else:
+                    continue
+                listener.close()
+
+    def take(self, link: socket.socket, words: list[str]) -> bool:
+        """Takes a line. Where it is deaf it ends well behind it, and its answer is lost."""
+        number, what = int(words[0]), words[1]
+        if number == self.taken + 1:
+            self.taken = number
+            if what != "end":
+                self.rows.append(what)
+                if self.is_deaf:
+                    return False
+        if number <= self.taken:
+            link.sendall(b"ack %d\n" % self.taken)
+        return True
+
+    def answerer(self) -> type[http.server.BaseHTTPRequestHandler]:
+        hall = self
+
+        class Answerer(http.server.BaseHTTPRequestHandler):
+            """The questions of docs/FORMATS.md, over rows that are all packs of lane 3."""
+
+            def do_GET(self) -> None:  # pylint: disable=invalid-name
+                words = self.path.split("/")
+                text = {"summary": f"rows {len(hall.rows)}\n", "lanes": "lane 3 batch A settled\n"}
+                if words[1] == "packs":
+                    gross = hall.rows[int(words[2]) - 1]
+                    said = f"pack {words[2]} batch A lane 3 gross {gross} net 1.000 standard"
+                    text["packs"] = f"{said} pass passed\n"
+                body = text[words[1]].encode()
+                self.send_response(200)
+                self.send_header("Content-Length", str(len(body)))
+                self.end_headers()
+                self.wfile.write(body)
+
+            def log_message(self, format: str, *args: object) -> None:
+                pass
+
+        return Answerer
+
+
+def run_sender(hall: Hall, words: list[str]) -> subprocess.Popen[str]:
+    return subprocess.Popen(
+        [sys.executable, SENDER, str(hall.port), "--seconds=1", *words],
+        stdin=subprocess.PIPE, stdout=subprocess.PIPE, stderr=subprocess.PIPE,
+        encoding="latin-1", bufsize=1)  # fmt: skip
+
+
+def check_lost(words: list[str], rows: list[str], complaints: int) -> None:
+    """A hall ends well behind its third weight, whose acknowledgement is lost; another begins."""
+    hall = Hall()
+    if "--book" in words:
+        words = [*words, f"http://127.0.0.1:{hall.door.server_port}", "--lane", "3"]
+    sender = run_sender(hall, words)
+    assert sender.stdin and sender.stdout
+    for weight in ("262.000", "263.000"):
+        sender.stdin.write(f"{weight}\n")
+        sender.stdout.readline()
+    hall.is_deaf = True
+    sender.stdin.write("263.000\n")
+    while len(hall.rows) < 3:
+        time.sleep(0.01)
+    hall.is_deaf = False
+    time.sleep(0.3)
+    hall.begin()
+    told, said = sender.communicate("264.000\n263.000\n", timeout=60)
+    if hall.rows != rows:
+        fail(f"{words}: the book has {hall.rows} in place of {rows}; {told!r} {said!r}")
+    if len(said.splitlines()) != complaints or sender.returncode != 0:
+        fail(f"{words}: status {sender.returncode}, and it says {said!r}")
+
+
+def check_bad_lines() -> None:
+    """20 MB without a line's end, lines too long, weights over 30 kg, and one that is just that."""
+    hall = Hall()
+    sender = run_sender(hall, [])
+    began = time.monotonic()
+    given = ["0" * 20_000_000, "262.000", "1" * 65, "30000.001", "30000", "262,0", "30000.000\r"]
+    _, said = sender.communicate("\n".join(given), timeout=100)
+    took = time.monotonic() - began
+    if hall.rows != ["262.000", "30000", "30000.000"] or took > 20:
+        fail(f"bad lines: {hall.rows} within {took:.1f} s")
+    wanted = [f"no weight: b'{'0' * 64}'", f"no weight: b'{'1' * 64}'", "over 30 kg: 30000.001",
+              "no weight: b'262,0'"]  # fmt: skip
+    if said.splitlines() != [f"scale_sender: {line}" for line in wanted]:
+        fail(f"bad lines: {said!r}")
+    print(f"sender: 20 MB without a line's end and weights over 30 kg are left out, {took:.1f} s")
+
+
+def main() -> None:
+    check_numbers()
+    check_bad_lines()
+    check_lost([], ["262.000", "263.000", "263.000", "263.000", "264.000", "263.000"], 1)
+    check_lost(["--book"], ["262.000", "263.000", "263.000", "264.000", "263.000"], 0)
+    print("sender: a weight whose acknowledgement is lost at a good end stands twice and is reported;"
+          " with the book asked it stands once")  # fmt: skip
+
+
+if __name__ == "__main__":
+    main()
