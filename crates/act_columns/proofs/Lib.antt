@@ -1,0 +1,4 @@
+pub mod Names
+pub mod Fits
+pub mod Fields
+pub mod Columns
