@@ -4,7 +4,7 @@
 #
 # Desk 101 sets the day, a product, its tare and a batch; lane 1 weighs 101 packs by a script; the
 # desk voids a pack and loses the answer, asks again, ends the batch, draws it, measures what was
-# drawn, closes it and reads its sheet. Each request is a connection of its own.
+# drawn, is refused a second sample, closes it and reads its sheet. Each request is a connection of its own.
 #
 # usage: tests/office.sh     (HALL names another program than the one that `./hall` builds)
 set -eu
@@ -28,7 +28,8 @@ serve() {
 act() {
     curl -sS --retry 100 --retry-connrefused --retry-delay 0 \
         --data "{\"desk\":101,\"request\":$1,\"act\":$2}" $url/acts |
-        sed -E 's/^\{"row":([0-9]+)\}$/\1 ok\n/; s/^\{"row":([0-9]+),"verdict":"(.*)"\}$/\1 \2\n/'
+        sed -E 's/^\{"row":([0-9]+)\}$/\1 ok\n/; s/^\{"row":([0-9]+),"verdict":"(.*)"\}$/\1 \2\n/
+            s/^\{"at":(.*),"kept":"(.*)","name":"(.*)","refused":(.*)\}$/refused \4 \3 \2 at \1\n/'
 }
 
 # reads a page
@@ -57,7 +58,7 @@ act 3 '"tare","product":"rice250","day":"2025-03-03","tare":10000' >>"$room/http
 act 4 '"open","batch":"A","product":"rice250"' >>"$room/http"
 wait
 weighings | "$hall" run --book "$room/office.book" >/dev/null
-serve $((2 + 3 + DRAWN + 1 + 2))
+serve $((2 + 3 + DRAWN + 2 + 2))
 until lose 5 2>/dev/null; do :; done
 act 5 "\"void\",\"pack\":$VOIDED" >>"$room/http"
 act 6 '"end","batch":"A"' >>"$room/http"
@@ -68,6 +69,7 @@ for pack in $(sed 's/^sample A first //' "$room/sample"); do
     act $request "\"measure\",\"pack\":$pack,\"gross\":262000" >>"$room/http"
     request=$((request + 1))
 done
+act $request '"second","batch":"A","word":7' >>"$room/http"
 act $request '"close","batch":"A"' >>"$room/http"
 page batches/A >>"$room/http"
 page summary >>"$room/http"
@@ -87,6 +89,7 @@ weighings | run >/dev/null
         echo @101 $request measure "$pack" 262
         request=$((request + 1))
     done
+    echo @101 $request second A 7
     echo @101 $request close A
     echo sheet A
 } | run >>"$room/script"
