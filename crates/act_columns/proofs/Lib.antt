@@ -2,3 +2,4 @@ pub mod Names
 pub mod Fits
 pub mod Fields
 pub mod Columns
+mod WorkedColumns
