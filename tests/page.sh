@@ -36,8 +36,8 @@ timeout 300 awk -v room="$room" -v hall="${HALL:-./hall}" '
 if [ "${2:-}" = --write ]; then
     cp "$room/page" "$page"
 elif diff "$page" "$room/page"; then
-    echo "$page: each of its $(grep -c '^\$ ' "$page") commands prints what it says"
+    echo "$page: commands that print what the page says: $(grep -c '^\$ ' "$page")"
 else
-    echo "$page: a command prints something else (above, behind >)" >&2
+    echo "$page: a command prints something else (above, after >)" >&2
     exit 1
 fi
