@@ -82,11 +82,12 @@ page batches/A/sample >"$room/sample.A"
 measure A 262000 8 >>"$room/http"
 page batches/A >>"$room/http"
 next=$((8 + DRAWN + 1))
+opening=$((next + 2))
 act $next '"product_ml","name":"juice","nominal":1000000' >>"$room/http"
 act $((next + 1)) '"tare","product":"juice","day":"2025-03-03","tare":30000' >>"$room/http"
-act $((next + 2)) '"open","batch":"J","product":"juice"' >>"$room/http"
-act $((next + 2)) '"open_at","batch":"J","product":"juice","density":499999' >>"$room/http"
-act $((next + 2)) '"open_at","batch":"J","product":"juice","density":1040500' >>"$room/http"
+act $opening '"open","batch":"J","product":"juice"' >>"$room/http"
+act $opening '"open_at","batch":"J","product":"juice","density":499999' >>"$room/http"
+act $opening '"open_at","batch":"J","product":"juice","density":1040500' >>"$room/http"
 wait
 weighings J $BOTTLES 1078.250 | "$hall" run --book "$room/office.book" >/dev/null
 serve $((3 + BOTTLES + 2 + 2))
@@ -123,8 +124,8 @@ weighings A $PACKS 262.000 | run >/dev/null
     measurings A 262 8
     echo sheet A
     printf '%s\n' "@101 $next product juice 1000 ml" "@101 $((next + 1)) tare juice 2025-03-03 30" \
-        "@101 $((next + 2)) open J juice" "@101 $((next + 2)) open J juice 499.999" \
-        "@101 $((next + 2)) open J juice 1040.5"
+        "@101 $opening open J juice" "@101 $opening open J juice 499.999" \
+        "@101 $opening open J juice 1040.5"
 } | answers >>"$room/script"
 weighings J $BOTTLES 1078.250 | run >/dev/null
 {
