@@ -5,10 +5,13 @@ ghost use Rattle.report_run.specs.Printing.{SaysText, HasPrinted};
 ghost use Rattle.report_run.specs.Reports.{text_if_there};
 ghost use Rattle.act_lines.specs.ActLines.{act_text};
 ghost use Rattle.act_lines.specs.ActViews.{acts_text};
+ghost use Rattle.act_replay.specs.Replay.{CanBeReplayed};
 ghost use Rattle.acts_run.specs.Rows as told;
 
 use crate::rows::view_at;
+use crate::sizes::fit_fields;
 use act_lines::push_act;
+use act_replay::acts_replayed;
 use book_state::State;
 use book_store::Store;
 use disk_core::{Disk, Partly, Sink};
@@ -79,8 +82,18 @@ fn write_acts<K: Sink>(
     Ok(())
 }
 
+// No work: the text of the rows behind so many can be asked again.
+fn replay_rows(state: &State, after: u32)
+    ensures { CanBeReplayed after state.now.entries }
+{
+    let _rows = state.len();
+    fit_fields(state.entries());
+    acts_replayed();
+}
+
 /// Prints the book as text: a line for each entry behind so many rows, in order. Behind the last
-/// row it prints nothing.
+/// row it prints nothing. Its third column is a script: asked of a book that holds the rows before
+/// them, it is answered by the first column and adds these rows.
 ///
 /// All memory that it takes is a buffer, taken before the first write: without it, nothing goes
 /// out. Where the output fails, a part of the lines went out.
@@ -92,7 +105,9 @@ pub fn print_acts<K: Sink, D: Disk>(
 ) -> Stop
     ensures says { SaysText (output_at K.Sink output.old) (output_at K.Sink output.new)
         (acts_text after (entries_of store.now)) result }
+    ensures replays { CanBeReplayed after (entries_of store.now) }
 {
+    replay_rows(store.book().state(), after);
     let Ok(mut text) = empty_buffer(alloc) else {
         return Stop::NoMemory;
     };
