@@ -3,10 +3,10 @@
 # sheet, the same summary.
 #
 # Desk 101 sets the day, a product, its tare and a batch; lane 1 weighs 101 packs by a script; the
-# desk voids a pack and loses the answer, asks again, ends the batch, draws it, is refused a second
-# sample, measures what was drawn, closes it and reads its sheet. Then it enters juice, which is sold by volume: a batch of it
-# without its density and one too light are refused, the next is weighed on lane 1, measured whole
-# and closed. Each request is a connection of its own.
+# desk voids a pack and loses the answer, asks again, ends the batch, draws it, measures what was
+# drawn, is refused a second sample, closes it and reads its sheet. Then it enters juice, which is
+# sold by volume: a batch of it without its density and one too light are refused, the next is
+# weighed on lane 1, measured whole and closed. Each request is a connection of its own.
 #
 # usage: tests/office.sh     (HALL names another program than the one that `./hall` builds)
 set -eu
@@ -46,13 +46,15 @@ lose() {
     python3 tests/lost_request.py $port "$body"
 }
 
-# measures the packs of a sample from a request on, each with this gross in mg, and closes its batch
+# measures the packs of a sample from a request on, each with this gross in mg, asks for a second
+# sample in vain, and closes the batch
 measure() {
     request=$3
     for pack in $(sed "s/^sample $1 first //" "$room/sample.$1"); do
         act "$request" "\"measure\",\"pack\":$pack,\"gross\":$2"
         request=$((request + 1))
     done
+    act "$request" "\"second\",\"batch\":\"$1\",\"word\":7"
     act "$request" "\"close\",\"batch\":\"$1\""
 }
 
@@ -71,24 +73,24 @@ act 3 '"tare","product":"rice250","day":"2025-03-03","tare":10000' >>"$room/http
 act 4 '"open","batch":"A","product":"rice250"' >>"$room/http"
 wait
 weighings A $PACKS 262.000 | "$hall" run --book "$room/office.book" >/dev/null
-serve $((2 + 4 + DRAWN + 1 + 1 + 5))
+serve $((2 + 3 + DRAWN + 2 + 1 + 5))
 until lose 5 2>/dev/null; do :; done
 act 5 "\"void\",\"pack\":$VOIDED" >>"$room/http"
 act 6 '"end","batch":"A"' >>"$room/http"
 act 7 '"draw","batch":"A","mode":"keep","word":7' >>"$room/http"
 page batches/A/sample >"$room/sample.A"
-act 8 '"second","batch":"A","word":7' >>"$room/http"
 measure A 262000 8 >>"$room/http"
 page batches/A >>"$room/http"
 next=$((8 + DRAWN + 1))
+opening=$((next + 2))
 act $next '"product_ml","name":"juice","nominal":1000000' >>"$room/http"
 act $((next + 1)) '"tare","product":"juice","day":"2025-03-03","tare":30000' >>"$room/http"
-act $((next + 2)) '"open","batch":"J","product":"juice"' >>"$room/http"
-act $((next + 2)) '"open_at","batch":"J","product":"juice","density":499999' >>"$room/http"
-act $((next + 2)) '"open_at","batch":"J","product":"juice","density":1040500' >>"$room/http"
+act $opening '"open","batch":"J","product":"juice"' >>"$room/http"
+act $opening '"open_at","batch":"J","product":"juice","density":499999' >>"$room/http"
+act $opening '"open_at","batch":"J","product":"juice","density":1040500' >>"$room/http"
 wait
 weighings J $BOTTLES 1078.250 | "$hall" run --book "$room/office.book" >/dev/null
-serve $((3 + BOTTLES + 1 + 2))
+serve $((3 + BOTTLES + 2 + 2))
 act $((next + 3)) '"end","batch":"J"' >>"$room/http"
 act $((next + 4)) '"draw","batch":"J","mode":"keep","word":5' >>"$room/http"
 page batches/J/sample >"$room/sample.J"
@@ -110,6 +112,7 @@ measurings() {
         echo "@101 $request measure $pack $2"
         request=$((request + 1))
     done
+    echo "@101 $request second $1 7"
     echo "@101 $request close $1"
 }
 
@@ -117,13 +120,12 @@ printf '%s\n' '@101 1 day 2025-03-03' '@101 2 product rice250 250' \
     '@101 3 tare rice250 2025-03-03 10' '@101 4 open A rice250' | answers >"$room/script"
 weighings A $PACKS 262.000 | run >/dev/null
 {
-    printf '%s\n' "@101 5 void $VOIDED" '@101 6 end A' '@101 7 draw A keep 7' \
-        '@101 8 second A 7'
+    printf '%s\n' "@101 5 void $VOIDED" '@101 6 end A' '@101 7 draw A keep 7'
     measurings A 262 8
     echo sheet A
     printf '%s\n' "@101 $next product juice 1000 ml" "@101 $((next + 1)) tare juice 2025-03-03 30" \
-        "@101 $((next + 2)) open J juice" "@101 $((next + 2)) open J juice 499.999" \
-        "@101 $((next + 2)) open J juice 1040.5"
+        "@101 $opening open J juice" "@101 $opening open J juice 499.999" \
+        "@101 $opening open J juice 1040.5"
 } | answers >>"$room/script"
 weighings J $BOTTLES 1078.250 | run >/dev/null
 {
