@@ -54,6 +54,8 @@ class World:
     # the answers on their way, and whether a line was said that hasn't been waited for
     answers: list[int] = field(default_factory=list)
     was_said: bool = False
+    # whether the hall is another one than that of the last connection
+    is_new: bool = False
     # whether the present weight has a row that a hall settled which ended well
     is_settled: bool = False
     halls: int = 0
@@ -63,7 +65,7 @@ class World:
         known = self.numbers
         return (known.acknowledged, tuple(known.tries), frozenset(known.said), known.in_step,
                 self.taken, tuple(self.rows), self.weight, self.is_connected,
-                tuple(self.answers), self.was_said, self.is_settled, self.halls)  # fmt: skip
+                tuple(self.answers), self.was_said, self.is_settled, self.is_new, self.halls)  # fmt: skip
 
     def cut(self) -> None:
         self.is_connected, self.answers, self.was_said = False, [], False
@@ -89,7 +91,9 @@ def step(world: World, what: str) -> World | None:
     world = copy.deepcopy(world)
     world.steps += (what,)
     if what == "connect" and not world.is_connected:
-        connect(world)
+        connect(world, False)
+    elif what == "connect, refused before" and not world.is_connected and world.is_new:
+        connect(world, True)
     elif what in ("say", "say, cut on the way") and world.is_connected and not world.was_said:
         number = world.numbers.number()
         world.was_said = True
@@ -114,11 +118,11 @@ def step(world: World, what: str) -> World | None:
     return world
 
 
-def connect(world: World) -> None:
-    """A new connection. Behind a weight that was said before the book is asked, which knows it
+def connect(world: World, was_refused: bool) -> None:
+    """A new connection, perhaps behind a time without a hall. Behind a weight that was said before the book is asked, which knows it
     where it is settled."""
-    world.is_connected = True
-    world.numbers.connect()
+    world.is_connected, world.is_new = True, False
+    world.numbers.connect(was_refused)
     if world.is_settled:
         world.numbers.skip_line()
         world.weight += 1
@@ -135,11 +139,12 @@ def end_hall(world: World, what: str) -> None:
         world.is_settled = world.rows[-1:] == [world.weight]
     elif world.rows[-1:] == [world.weight] and not world.is_settled:
         world.rows.pop()
-    world.taken = 0
+    world.taken, world.is_new = 0, True
     world.cut()
 
 
-STEPS = ("connect", "say", "say, cut on the way", "hear", "silence", "cut", "end", "kill")
+STEPS = ("connect", "connect, refused before", "say", "say, cut on the way", "hear", "silence", "cut",
+         "end", "kill")  # fmt: skip
 
 
 def check_world(world: World) -> None:
