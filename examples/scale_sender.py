@@ -4,9 +4,9 @@
 usage: scale_sender.py PORT [--host H] [--first N] [--seconds S]
                             [--book URL --lane L [--login FILE]] < WEIGHTS
 
-WEIGHTS has a weight in grams a line: 1 to 8 digits, and at most three behind a point. What is no
+WEIGHTS has a weight in grams a line: 1 to 8 digits, and at most three after a point. What is no
 weight, a line of more than 64 bytes and a weight over 30 kg are left out and reported on standard
-error, since they would end the lane. The line behind the last weight says `end`. Each line that was
+error, since they would end the lane. The line after the last weight says `end`. Each line that was
 acknowledged goes to standard output, with its number.
 
 Weights are numbered from 1 (`1 251.000`), by each hall anew. A line is said, and said again over a
@@ -22,7 +22,7 @@ on the way. The next hall takes the weight again, and standard error reports it.
 asks the book first whether lane L has the weight: at a door (http://127.0.0.1:8471), or at the front
 (https://NAME/hall), where FILE has `NAME:PASSWORD` of a person who may look.
 
---first N is for who begins this anew while the hall stays: the number behind the last one that was
+--first N is for who begins this anew while the hall stays: the number after the last one that was
 acknowledged.
 
 Status 0: the end was acknowledged. 1: it wasn't, and the hall is gone; the lane may have heard it.
@@ -98,7 +98,7 @@ class Numbers:
     its hall may be a new one, that has taken none. The line with the number 1 is answered by 1
     where a new hall took it, and otherwise by how many were taken. These two are alike where one was
     acknowledged so far: then, unless the hall is known to be a new one, the number 2 comes first,
-    which a new hall passes over in silence, and 1 only behind that.
+    which a new hall passes over in silence, and 1 only after that.
 
     No number is said that a hall which has the line already would take.
     """
@@ -243,7 +243,7 @@ class Book:
             link.close()
 
     def packs(self, link: http.client.HTTPConnection, after: int, rows: int) -> Iterator[list[str]]:
-        """The lane's packs behind a row: `pack N batch B lane L gross G .. PILE`."""
+        """The lane's packs after a row: `pack N batch B lane L gross G .. PILE`."""
         for row in range(after + 1, rows + 1):
             pack = self.ask(link, f"/packs/{row}")
             if pack is not None and pack[5] == str(self.lane):
@@ -254,7 +254,7 @@ class Book:
 
 
 class Sender:
-    """Says lines to a hall, one behind the other."""
+    """Says lines to a hall, one after the other."""
 
     def __init__(
         self,

@@ -24,7 +24,7 @@ from restarts import lost_acknowledgement, restarts_over_pipes, restarts_over_po
 
 # The folder in which a small file system may be mounted, and its size.
 DISK_BYTES = 600_000
-# How soon lanes are back behind a full disk, on a quiet machine, in seconds.
+# How soon lanes are back after a full disk, on a quiet machine, in seconds.
 BACK_WITHIN = 60
 
 
@@ -110,7 +110,7 @@ def full_disk(place: Place) -> None:
     opened, began = sum(len(scale.opened) for scale in scales), time.monotonic()
     wait_for(lambda: sum(len(scale.opened) for scale in scales) > opened + 20, "lanes are back")
     took = time.monotonic() - began
-    note(took, f"behind a full disk the lanes were back after (at most {BACK_WITHIN})")
+    note(took, f"after a full disk the lanes were back after (at most {BACK_WITHIN})")
     service.stop()
     packs = place.packs()
     rows = [[int(pack["pack"]) for pack in packs if pack["lane"] == str(lane)

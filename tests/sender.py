@@ -87,7 +87,7 @@ def hall_hears(world: World, number: int) -> None:
 
 
 def step(world: World, what: str) -> World | None:
-    """The world behind a step, or nothing where it can't be."""
+    """The world after a step, or nothing where it can't be."""
     world = copy.deepcopy(world)
     world.steps += (what,)
     if what == "connect" and not world.is_connected:
@@ -119,8 +119,8 @@ def step(world: World, what: str) -> World | None:
 
 
 def connect(world: World, was_refused: bool) -> None:
-    """A new connection, perhaps behind a time without a hall. Behind a weight that was said before the book is asked, which knows it
-    where it is settled."""
+    """A new connection, perhaps after a time without a hall. After a weight that was said before the
+    book is asked, which knows it where it is settled."""
     world.is_connected, world.is_new = True, False
     world.numbers.connect(was_refused)
     if world.is_settled:
@@ -162,7 +162,7 @@ def check_numbers() -> None:
     depth = 0
     while worlds and depth < DEPTH:
         depth += 1
-        behind = []
+        found = []
         for world in worlds:
             check_goes_on(world)
             for what in STEPS:
@@ -171,8 +171,8 @@ def check_numbers() -> None:
                     continue
                 check_world(after)
                 seen.add(after.key())
-                behind.append(after)
-        worlds = behind
+                found.append(after)
+        worlds = found
     print(f"sender: {len(seen)} states, up to {depth} steps, {WEIGHTS - 1} weights and {HALLS + 1}"
           " halls: each weight once and in order, and a hall that stays takes the next")  # fmt: skip
 
@@ -228,7 +228,7 @@ class Hall:
                 listener.close()
 
     def take(self, link: socket.socket, words: list[str]) -> bool:
-        """Takes a line. Where it is deaf it ends well behind it, and its answer is lost."""
+        """Takes a line. Where it is deaf it ends well after it, and its answer is lost."""
         number, what = int(words[0]), words[1]
         if number == self.taken + 1:
             self.taken = number
@@ -273,7 +273,7 @@ def run_sender(hall: Hall, words: list[str]) -> subprocess.Popen[str]:
 
 
 def check_lost(words: list[str], rows: list[str], complaints: int) -> None:
-    """A hall ends well behind its third weight, whose acknowledgement is lost; another begins."""
+    """A hall ends well after its third weight, whose acknowledgement is lost; another begins."""
     hall = Hall()
     if "--book" in words:
         words = [*words, f"http://127.0.0.1:{hall.door.server_port}", "--lane", "3"]
