@@ -17,10 +17,10 @@ again how many it has taken. So this goes on over any restart of the hall, behin
 Where one line was acknowledged so far, 5 seconds of silence tell the two apart, or a port that
 refused a connection meanwhile; a tunnel whose own port may do that is used with --book.
 
-One case the lines alone can't tell: a hall took a weight, it ended, and its acknowledgement was lost
-on the way. The next hall takes the weight again, and standard error reports it. With --book this
-asks the book first whether lane L has the weight: at a door (http://127.0.0.1:8471), or at the front
-(https://NAME/hall), where FILE has `NAME:PASSWORD` of a person who may look.
+One case the lines alone can't tell: a hall took a weight, it ended, and its acknowledgement was
+lost on the way. The next hall takes the weight again, and standard error reports it. With --book
+this asks the book first whether lane L has the weight: at a door (http://127.0.0.1:8471), or at the
+front (https://NAME/hall), where FILE has `NAME:PASSWORD` of a person who may look.
 
 --first N is for who begins this anew while the hall stays: the number after the last one that was
 acknowledged.
@@ -96,7 +96,7 @@ class Numbers:
     A hall that has taken so many lines takes the one with the next number, answers one with an
     earlier number by how many it has taken, and passes a later one over. Where a connection is new
     its hall may be a new one, that has taken none. The line with the number 1 is answered by 1
-    where a new hall took it, and otherwise by how many were taken. These two are alike where one was
+    where a new hall took it, and else by how many were taken. These two are alike where one was
     acknowledged so far: then, unless the hall is known to be a new one, the number 2 comes first,
     which a new hall passes over in silence, and 1 only after that.
 

@@ -1,7 +1,7 @@
 #!/usr/bin/env python3
 """What examples/scale_sender.py says to halls that go on, end, are killed and begun again.
 
-usage: tests/sender.py      no program is needed: the hall is that of docs/FORMATS.md, "Remote cells"
+usage: tests/sender.py      no program is needed: the hall does what docs/FORMATS.md says
 
 Its numbers first: every order of lines, answers, lost answers, cuts, good ends and kills up to a
 depth is gone through, beside a hall that does what FORMATS says. No weight stands twice, none is
@@ -65,7 +65,8 @@ class World:
         known = self.numbers
         return (known.acknowledged, tuple(known.tries), frozenset(known.said), known.in_step,
                 self.taken, tuple(self.rows), self.weight, self.is_connected,
-                tuple(self.answers), self.was_said, self.is_settled, self.is_new, self.halls)  # fmt: skip
+                tuple(self.answers), self.was_said, self.is_settled, self.is_new,
+                self.halls)  # fmt: skip
 
     def cut(self) -> None:
         self.is_connected, self.answers, self.was_said = False, [], False
@@ -119,8 +120,8 @@ def step(world: World, what: str) -> World | None:
 
 
 def connect(world: World, was_refused: bool) -> None:
-    """A new connection, perhaps after a time without a hall. After a weight that was said before the
-    book is asked, which knows it where it is settled."""
+    """A new connection, perhaps after a time without a hall. After a weight that was said before
+    the book is asked, which knows it where it is settled."""
     world.is_connected, world.is_new = True, False
     world.numbers.connect(was_refused)
     if world.is_settled:
@@ -143,8 +144,8 @@ def end_hall(world: World, what: str) -> None:
     world.cut()
 
 
-STEPS = ("connect", "connect, refused before", "say", "say, cut on the way", "hear", "silence", "cut",
-         "end", "kill")  # fmt: skip
+STEPS = ("connect", "connect, refused before", "say", "say, cut on the way", "hear", "silence",
+         "cut", "end", "kill")  # fmt: skip
 
 
 def check_world(world: World) -> None:
@@ -174,7 +175,7 @@ def check_numbers() -> None:
                 found.append(after)
         worlds = found
     print(f"sender: {len(seen)} states, up to {depth} steps, {WEIGHTS - 1} weights and {HALLS + 1}"
-          " halls: each weight once and in order, and a hall that stays takes the next")  # fmt: skip
+          " halls: each weight once and in order, and one that stays takes the next")  # fmt: skip
 
 
 def check_goes_on(world: World) -> None:
@@ -318,8 +319,8 @@ def main() -> None:
     check_bad_lines()
     check_lost([], ["262.000", "263.000", "263.000", "263.000", "264.000", "263.000"], 1)
     check_lost(["--book"], ["262.000", "263.000", "263.000", "264.000", "263.000"], 0)
-    print("sender: a weight whose acknowledgement is lost at a good end stands twice and is reported;"
-          " with the book asked it stands once")  # fmt: skip
+    print("sender: a weight whose acknowledgement is lost at a good end stands twice and is"
+          " reported; with the book asked it stands once")  # fmt: skip
 
 
 if __name__ == "__main__":
