@@ -4,9 +4,9 @@
 usage: scale_sender.py PORT [--host H] [--first N] [--seconds S]
                             [--book URL --lane L [--login FILE]] < WEIGHTS
 
-WEIGHTS has a weight in grams a line: 1 to 8 digits, and at most three behind a point. What is no
+WEIGHTS has a weight in grams a line: 1 to 8 digits, and at most three after a point. What is no
 weight, a line of more than 64 bytes and a weight over 30 kg are left out and reported on standard
-error, since they would end the lane. The line behind the last weight says `end`. Each line that was
+error, since they would end the lane. The line after the last weight says `end`. Each line that was
 acknowledged goes to standard output, with its number.
 
 Weights are numbered from 1 (`1 251.000`), by each hall anew. A line is said, and said again over a
@@ -14,13 +14,15 @@ new connection where no acknowledgement comes within S seconds (5), or the conne
 the hall of a new connection is another one is seen from its answer: the first line there is the
 weight that isn't acknowledged with the number 1. A new hall takes it, and one that goes on says
 again how many it has taken. So this goes on over any restart of the hall, behind a tunnel too.
+Where one line was acknowledged so far, 5 seconds of silence tell the two apart, or a port that
+refused a connection meanwhile; a tunnel whose own port may do that is used with --book.
 
-One case the lines alone can't tell: a hall took a weight, it ended, and its acknowledgement was lost
-on the way. The next hall takes the weight again, and standard error reports it. With --book this
-asks the book first whether lane L has the weight: at a door (http://127.0.0.1:8471), or at the front
-(https://NAME/hall), where FILE has `NAME:PASSWORD` of a person who may look.
+One case the lines alone can't tell: a hall took a weight, it ended, and its acknowledgement was
+lost on the way. The next hall takes the weight again, and standard error reports it. With --book
+this asks the book first whether lane L has the weight: at a door (http://127.0.0.1:8471), or at the
+front (https://NAME/hall), where FILE has `NAME:PASSWORD` of a person who may look.
 
---first N is for who begins this anew while the hall stays: the number behind the last one that was
+--first N is for who begins this anew while the hall stays: the number after the last one that was
 acknowledged.
 
 Status 0: the end was acknowledged. 1: it wasn't, and the hall is gone; the lane may have heard it.
@@ -94,9 +96,9 @@ class Numbers:
     A hall that has taken so many lines takes the one with the next number, answers one with an
     earlier number by how many it has taken, and passes a later one over. Where a connection is new
     its hall may be a new one, that has taken none. The line with the number 1 is answered by 1
-    where a new hall took it, and otherwise by how many were taken. These two are alike where one was
-    acknowledged so far: then the number 2 comes first, which a new hall passes over in silence, and
-    1 only behind that.
+    where a new hall took it, and else by how many were taken. These two are alike where one was
+    acknowledged so far: then, unless the hall is known to be a new one, the number 2 comes first,
+    which a new hall passes over in silence, and 1 only after that.
 
     No number is said that a hall which has the line already would take.
     """
@@ -110,10 +112,12 @@ class Numbers:
         # whether the hall of this connection is known to have taken what was acknowledged
         self.in_step = False
 
-    def connect(self) -> None:
-        """The connection is a new one."""
+    def connect(self, is_new_hall: bool) -> None:
+        """The connection is a new one; its hall is another one than before, or that isn't known."""
         self.in_step = False
-        if not self.tries:
+        if is_new_hall and self.acknowledged == 1:
+            self.tries = [1]
+        elif not self.tries:
             self.tries = [2, 1] if self.acknowledged == 1 else [1]
 
     def number(self) -> int:
@@ -239,7 +243,7 @@ class Book:
             link.close()
 
     def packs(self, link: http.client.HTTPConnection, after: int, rows: int) -> Iterator[list[str]]:
-        """The lane's packs behind a row: `pack N batch B lane L gross G .. PILE`."""
+        """The lane's packs after a row: `pack N batch B lane L gross G .. PILE`."""
         for row in range(after + 1, rows + 1):
             pack = self.ask(link, f"/packs/{row}")
             if pack is not None and pack[5] == str(self.lane):
@@ -250,7 +254,7 @@ class Book:
 
 
 class Sender:
-    """Says lines to a hall, one behind the other."""
+    """Says lines to a hall, one after the other."""
 
     def __init__(
         self,
@@ -274,15 +278,18 @@ class Sender:
         self.heard = b""
 
     def connect(self, wait: float | None) -> socket.socket:
-        """The connection to the hall, for which it waits."""
+        """The connection to the hall, for which it waits. A port that refuses says that the hall is
+        gone; with the book asked it says nothing, as that may be a tunnel's own port."""
         began = time.monotonic()
+        was_refused = False
         while self.link is None:
             try:
                 self.link = socket.create_connection(self.address, timeout=self.seconds)
                 self.link.setsockopt(socket.IPPROTO_TCP, socket.TCP_NODELAY, 1)
                 self.link.setsockopt(socket.SOL_SOCKET, socket.SO_KEEPALIVE, 1)
-                self.numbers.connect()
-            except OSError:
+                self.numbers.connect(was_refused and self.book is None)
+            except OSError as fault:
+                was_refused = was_refused or isinstance(fault, ConnectionRefusedError)
                 if wait is not None and wait < time.monotonic() - began:
                     raise Gone from None
                 time.sleep(RETRY)

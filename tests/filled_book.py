@@ -3,7 +3,7 @@
 usage: filled_book.py ROWS PATH
 
 One lane weighs good packs of 250 g in a package of 10 g, a few thousand a batch. Each batch is
-ended; the rows left behind the last one are days. ROWS is 20 to 1 000 000. The book has no snapshot,
+ended; the rows left after the last one are days. ROWS is 20 to 1 000 000. The book has no snapshot,
 as one that a kill left.
 """
 

@@ -22,9 +22,10 @@ from operation_room import (
 )  # fmt: skip
 from restarts import lost_acknowledgement, restarts_over_pipes, restarts_over_ports
 
-# The folder in which a small file system may be mounted, and its size.
+# The size of a small disk; how long it is full, and how soon lanes are back, in seconds: only a
+# busy machine may take longer.
 DISK_BYTES = 600_000
-# How soon lanes are back behind a full disk, on a quiet machine, in seconds.
+FULL_FOR = 40
 BACK_WITHIN = 60
 
 
@@ -105,17 +106,17 @@ def full_disk(place: Place) -> None:
             pass
     service.wait_for_error("hall: lane 1, batch A: disk")
     service.wait_for_error("hall: lane 2, batch A: disk")
-    time.sleep(10)
+    time.sleep(FULL_FOR)
     os.remove(filler)
     opened, began = sum(len(scale.opened) for scale in scales), time.monotonic()
     wait_for(lambda: sum(len(scale.opened) for scale in scales) > opened + 20, "lanes are back")
     took = time.monotonic() - began
-    note(took, f"behind a full disk the lanes were back after (at most {BACK_WITHIN})")
+    note(took, f"after a full disk the lanes were back after (at most {BACK_WITHIN})")
     service.stop()
     packs = place.packs()
-    rows = [[int(pack["pack"]) for pack in packs if pack["lane"] == str(lane)
-             and pack["signal"] == "pass" and pack["pile"] == "passed"] for lane in (1, 2)]  # fmt: skip
-    for scale, own in zip(scales, rows):
+    counted = [pack for pack in packs if pack["signal"] == "pass" and pack["pile"] == "passed"]
+    for scale, lane in zip(scales, ("1", "2")):
+        own = [int(pack["pack"]) for pack in counted if pack["lane"] == lane]
         wait_for(lambda: set(scale.opened) >= set(own), "each pack that counts was let out")
     subprocess.run(["umount", place.books], check=True)
 

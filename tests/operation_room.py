@@ -14,6 +14,7 @@ import sys
 import threading
 import time
 from collections.abc import Callable, Iterable, Iterator
+from contextlib import ExitStack
 from typing import TypeVar
 
 from clients import Wrong, need, plan
@@ -23,7 +24,7 @@ TOP = os.path.dirname(HERE)
 DEPLOY = f"{TOP}/deploy"
 SENDER = f"{TOP}/examples/scale_sender.py"
 # How long a state is waited for, in seconds, on a machine however busy.
-PATIENCE = 180.0
+PATIENCE = 600.0
 NAME = "day"
 LINES = ("@164 1 day 2025-03-03", "@164 2 product P 250", "@164 3 tare P 2025-03-03 10")
 
@@ -117,8 +118,10 @@ class Service:
         threading.Thread(target=self.take_down, daemon=True).start()
         environment = place.environment({"LANES": 0, "DOORS": 1} | settings)
         environment["NOTIFY_SOCKET"] = address
-        with open(self.paths["plan.toml"], "rb") as source, open(self.paths["said"], "wb") as said, \
-                open(self.paths["errors"], "wb") as errors:  # fmt: skip
+        with ExitStack() as files:
+            source = files.enter_context(open(self.paths["plan.toml"], "rb"))
+            said = files.enter_context(open(self.paths["said"], "wb"))
+            errors = files.enter_context(open(self.paths["errors"], "wb"))
             self.process = subprocess.Popen([f"{DEPLOY}/start", NAME], stdin=source, stdout=said,
                                             stderr=errors, env=environment)  # fmt: skip
         Service.running.append(self.process)

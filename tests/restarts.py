@@ -45,6 +45,11 @@ def compare(place: Place, given: list[list[str]]) -> int:
     return len(packs)
 
 
+def tell(times: int, way: str, count: int, longest: float) -> None:
+    print(f"    {times} good ends over {way}, {count} packs, none voided, twice or lost, no lane"
+          f" dead; the longest end {longest:.1f} s", flush=True)  # fmt: skip
+
+
 def difference(lane: int, stands: list[str], wanted: list[str]) -> str:
     """Where the packs of a lane differ first from the weights that were sent."""
     sent = [grams(weight) for weight in wanted]
@@ -75,8 +80,7 @@ def restarts_over_pipes(place: Place, times: int) -> None:
     count = compare(place, given)
     rows = [int(pack["pack"]) for pack in place.packs()]
     need(sorted(row for scale in scales for row in scale.opened) == rows, "each gate opened once")
-    print(f"    {times} good ends over pipes, {count} packs, none voided, twice or lost; the longest"
-          f" end {longest:.1f} s", flush=True)  # fmt: skip
+    tell(times, "pipes", count, longest)
 
 
 def restarts_over_ports(place: Place, times: int) -> None:
@@ -107,13 +111,12 @@ def restarts_over_ports(place: Place, times: int) -> None:
              "each weight was acknowledged once, in order")  # fmt: skip
     for reader in readers:
         os.close(reader)
-    print(f"    {times} good ends over ports, {count} packs, none voided, twice or lost, no lane"
-          f" dead; the longest end {longest:.1f} s", flush=True)  # fmt: skip
+    tell(times, "ports", count, longest)
 
 
 def lost_acknowledgement(place: Place) -> None:
-    """A weight that a good end settled, and whose acknowledgement is lost in a tunnel: with the book
-    asked it stands once; without it stands twice, and is reported."""
+    """A weight that a good end settled, and whose acknowledgement is lost in a tunnel: with the
+    book asked it stands once; without it stands twice, and is reported."""
     place.script("")
     text = plan_of(["A", "B"])
     for lane in range(1, LANES + 1):
@@ -127,8 +130,8 @@ def lost_acknowledgement(place: Place) -> None:
     service = Service(place, text, LANES=LANES, REMOTE=remote)
     service.wait_until_served()
     given = [weights(lane, 5) for lane in range(1, LANES + 1)]
-    scales = [NetworkScale(place.folder, lane, tunnel.port, own, 0.0, said)
-              for lane, (tunnel, own, said) in enumerate(zip(tunnels, given, words), 1)]  # fmt: skip
+    scales = [NetworkScale(place.folder, lane, tunnels[lane - 1].port, given[lane - 1], 0.0,
+                           words[lane - 1]) for lane in range(1, LANES + 1)]  # fmt: skip
     for scale in scales:
         send(scale, 0, 3)
         wait_for(lambda: len(scale.acknowledged()) == 3, "three weights are acknowledged")

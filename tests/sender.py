@@ -1,7 +1,7 @@
 #!/usr/bin/env python3
 """What examples/scale_sender.py says to halls that go on, end, are killed and begun again.
 
-usage: tests/sender.py      no program is needed: the hall is that of docs/FORMATS.md, "Remote cells"
+usage: tests/sender.py      no program is needed: the hall does what docs/FORMATS.md says
 
 Its numbers first: every order of lines, answers, lost answers, cuts, good ends and kills up to a
 depth is gone through, beside a hall that does what FORMATS says. No weight stands twice, none is
@@ -54,6 +54,8 @@ class World:
     # the answers on their way, and whether a line was said that hasn't been waited for
     answers: list[int] = field(default_factory=list)
     was_said: bool = False
+    # whether the hall is another one than that of the last connection
+    is_new: bool = False
     # whether the present weight has a row that a hall settled which ended well
     is_settled: bool = False
     halls: int = 0
@@ -63,7 +65,8 @@ class World:
         known = self.numbers
         return (known.acknowledged, tuple(known.tries), frozenset(known.said), known.in_step,
                 self.taken, tuple(self.rows), self.weight, self.is_connected,
-                tuple(self.answers), self.was_said, self.is_settled, self.halls)  # fmt: skip
+                tuple(self.answers), self.was_said, self.is_settled, self.is_new,
+                self.halls)  # fmt: skip
 
     def cut(self) -> None:
         self.is_connected, self.answers, self.was_said = False, [], False
@@ -85,11 +88,13 @@ def hall_hears(world: World, number: int) -> None:
 
 
 def step(world: World, what: str) -> World | None:
-    """The world behind a step, or nothing where it can't be."""
+    """The world after a step, or nothing where it can't be."""
     world = copy.deepcopy(world)
     world.steps += (what,)
     if what == "connect" and not world.is_connected:
-        connect(world)
+        connect(world, False)
+    elif what == "connect, refused before" and not world.is_connected and world.is_new:
+        connect(world, True)
     elif what in ("say", "say, cut on the way") and world.is_connected and not world.was_said:
         number = world.numbers.number()
         world.was_said = True
@@ -114,11 +119,11 @@ def step(world: World, what: str) -> World | None:
     return world
 
 
-def connect(world: World) -> None:
-    """A new connection. Behind a weight that was said before the book is asked, which knows it
-    where it is settled."""
-    world.is_connected = True
-    world.numbers.connect()
+def connect(world: World, was_refused: bool) -> None:
+    """A new connection, perhaps after a time without a hall. After a weight that was said before
+    the book is asked, which knows it where it is settled."""
+    world.is_connected, world.is_new = True, False
+    world.numbers.connect(was_refused)
     if world.is_settled:
         world.numbers.skip_line()
         world.weight += 1
@@ -135,11 +140,12 @@ def end_hall(world: World, what: str) -> None:
         world.is_settled = world.rows[-1:] == [world.weight]
     elif world.rows[-1:] == [world.weight] and not world.is_settled:
         world.rows.pop()
-    world.taken = 0
+    world.taken, world.is_new = 0, True
     world.cut()
 
 
-STEPS = ("connect", "say", "say, cut on the way", "hear", "silence", "cut", "end", "kill")
+STEPS = ("connect", "connect, refused before", "say", "say, cut on the way", "hear", "silence",
+         "cut", "end", "kill")  # fmt: skip
 
 
 def check_world(world: World) -> None:
@@ -157,7 +163,7 @@ def check_numbers() -> None:
     depth = 0
     while worlds and depth < DEPTH:
         depth += 1
-        behind = []
+        found = []
         for world in worlds:
             check_goes_on(world)
             for what in STEPS:
@@ -166,10 +172,10 @@ def check_numbers() -> None:
                     continue
                 check_world(after)
                 seen.add(after.key())
-                behind.append(after)
-        worlds = behind
+                found.append(after)
+        worlds = found
     print(f"sender: {len(seen)} states, up to {depth} steps, {WEIGHTS - 1} weights and {HALLS + 1}"
-          " halls: each weight once and in order, and a hall that stays takes the next")  # fmt: skip
+          " halls: each weight once and in order, and one that stays takes the next")  # fmt: skip
 
 
 def check_goes_on(world: World) -> None:
@@ -223,7 +229,7 @@ class Hall:
                 listener.close()
 
     def take(self, link: socket.socket, words: list[str]) -> bool:
-        """Takes a line. Where it is deaf it ends well behind it, and its answer is lost."""
+        """Takes a line. Where it is deaf it ends well after it, and its answer is lost."""
         number, what = int(words[0]), words[1]
         if number == self.taken + 1:
             self.taken = number
@@ -268,7 +274,7 @@ def run_sender(hall: Hall, words: list[str]) -> subprocess.Popen[str]:
 
 
 def check_lost(words: list[str], rows: list[str], complaints: int) -> None:
-    """A hall ends well behind its third weight, whose acknowledgement is lost; another begins."""
+    """A hall ends well after its third weight, whose acknowledgement is lost; another begins."""
     hall = Hall()
     if "--book" in words:
         words = [*words, f"http://127.0.0.1:{hall.door.server_port}", "--lane", "3"]
@@ -313,8 +319,8 @@ def main() -> None:
     check_bad_lines()
     check_lost([], ["262.000", "263.000", "263.000", "263.000", "264.000", "263.000"], 1)
     check_lost(["--book"], ["262.000", "263.000", "263.000", "264.000", "263.000"], 0)
-    print("sender: a weight whose acknowledgement is lost at a good end stands twice and is reported;"
-          " with the book asked it stands once")  # fmt: skip
+    print("sender: a weight whose acknowledgement is lost at a good end stands twice and is"
+          " reported; with the book asked it stands once")  # fmt: skip
 
 
 if __name__ == "__main__":
