@@ -78,12 +78,14 @@ def check_names() -> None:
         said = tried(PERSON, name, "101", "164")
         need(said.returncode == 0 and len(said.stdout) == 21, f"hall-person {name}: {said}")
     before = content()
-    for words in ([name, "101"] for name in NO_NAMES):
-        refused(words)
+    for name in NO_NAMES:
+        refused(name, "101")
     for desk in NO_DESKS:
-        refused(["anna", "101", desk])
-    for words in ([], ["--remove"], ["--remove", "nobody"], ["--remove", "anna", "101"]):
-        refused(words)
+        refused("anna", "101", desk)
+    refused()
+    refused("--remove")
+    refused("--remove", "nobody")
+    refused("--remove", "anna", "101")
     need(content() == before, "a refused name changed a file")
     usage = tried(PERSON).stderr
     need("usage: hall-person NAME [DESK..]" in usage, f"without words: {usage}")
@@ -102,7 +104,7 @@ def check_names() -> None:
     )
 
 
-def refused(words: list[str]) -> None:
+def refused(*words: str) -> None:
     said = tried(PERSON, *words)
     need(
         said.returncode == 2 and said.stdout == "" and len(said.stderr) > 20,
@@ -164,9 +166,9 @@ def check_sites() -> None:
         said = tried(SITE, book, address, FRONT="/etc/hall/front")
         need(said.returncode == 2 and len(said.stderr) > 20, f"{book} at {address}: {said}")
     settle(8475, 2)
-    for words in ([], ["tried"], ["tried", "b.example", "c.example"], ["--remove", "b.example"]):
-        said = tried(SITE, *words, FRONT="/etc/hall/front")
-        need(said.returncode == 2 and said.stderr, f"hall-site {words}: {said}")
+    for words in ("", "tried", "tried b.example c.example", "--remove b.example"):
+        said = tried(SITE, *words.split(), FRONT="/etc/hall/front")
+        need(said.returncode == 2 and bool(said.stderr), f"hall-site {words}: {said}")
     said = tried(SITE, "tried", "b.example", FRONT="/etc/hall/front")
     need(said.returncode == 1 and "b.example.crt" in said.stderr, f"without a certificate: {said}")
     os.rename(f"/etc/hall/front/{NAME}.crt", "/etc/hall/kept.crt")

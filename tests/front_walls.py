@@ -94,8 +94,8 @@ def check_transport(front: Any) -> None:
             f"Host: {host}",
             f"https://{NAME}/",
         ]
-        said = subprocess.run(asked, capture_output=True, timeout=60)
-        need(said.returncode != 0 and said.stdout == b"", f"curl with Host {host}: {said}")
+        by_curl = subprocess.run(asked, capture_output=True, timeout=60)
+        need(by_curl.returncode != 0 and not by_curl.stdout, f"curl with Host {host}: {by_curl}")
 
 
 def other_host(person: Person, host: str) -> bytes:
