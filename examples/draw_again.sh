@@ -23,6 +23,8 @@ digits() {
 [ $# -eq 2 ] || refuse "usage: draw_again.sh WORD COUNT < PACKS"
 word=$(digits "$1" WORD) || exit
 count=$(digits "$2" COUNT) || exit
+# as texts: 20 digits are more than a number of bash
+# shellcheck disable=SC2071
 if [ ${#word} -gt ${#MOST_WORD} ] ||
     { [ ${#word} -eq ${#MOST_WORD} ] && [ "$word" \> "$MOST_WORD" ]; }; then
     refuse "WORD is at most $MOST_WORD, not $word"
