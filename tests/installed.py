@@ -127,10 +127,10 @@ def first_day(debian: Debian, served: Served, blocks: list[str]) -> None:
     served.waits_for("anna", address, "/hall/packs/6", "pass passed")
     need("reject inadequate rejected" in served.text("anna", address, "/hall/packs/7"), "pack 7")
     rows = served.rows("anna", address)
-    need(
-        served.act("anna", address, 1, act="product", name="rye", nominal=500000) == rows + 1,
-        "an act is the next row",
-    )
+    for request, name in enumerate(("rye", "oats"), 1):
+        row = served.act("anna", address, request, act="product", name=name, nominal=500000)
+        need(row == rows + request, f"an act is row {row}, behind {rows}")
+    # a running book is read without its newest row
     served.waits_for("anna", address, "/list.txt", "product rye nominal 500.000 g")
     check_rights(debian)
     print("package: a first day is served, as its commands say", flush=True)
