@@ -16,8 +16,10 @@ CURL = "curl -sS --cacert /etc/hall/authority.crt"
 ADDRESSES = ("hall.example", "old.hall.example", "juice.hall.example")
 # What an installed hall has, as a page names it or a person looks for it.
 PLACES = """
-    /usr/bin/hall /usr/sbin/hall-person /usr/sbin/hall-site /usr/lib/hall/start /usr/lib/hall/list
-    /lib/systemd/system/hall@.service /usr/share/hall/nginx.conf /usr/share/hall/site.conf
+    /usr/bin/hall /usr/sbin/hall-person /usr/sbin/hall-site /usr/sbin/hall-backup
+    /usr/sbin/hall-status /usr/lib/hall/start /usr/lib/hall/watch /usr/lib/hall/stop
+    /usr/lib/hall/list /lib/systemd/system/hall@.service /lib/systemd/system/hall-list@.timer
+    /lib/systemd/system/hall-backup@.timer /usr/share/hall/nginx.conf /usr/share/hall/site.conf
     /usr/share/hall/desks.js /usr/share/hall/hall.env /usr/share/hall/www/index.html
     /usr/share/hall/scales/lane.sh /usr/share/hall/scales/gate.sh /usr/share/hall/scales/weights.py
     /usr/share/hall/scales/scale_sender.py /usr/share/hall/standby.sh /etc/hall/hall.nft
@@ -123,6 +125,9 @@ def first_day(debian: Debian, served: Served, blocks: list[str]) -> None:
     address = ADDRESSES[0]
     need("<title>hall</title>" in served.text("anna", address, "/"), "the board")
     need(debian.step(lane).split("\n")[:2] == ["open 6", "open 8"], "the gate opens for 6 and 8")
+    said = debian.run("hall-status 2026-12 2>&1")
+    need("lane 1" in said and "MORNING" in said, f"hall-status says {said}")
+    debian.run("hall-backup 2026-12 && hall-backup --try-restore 2026-12", 0)
     # the hall of before has ended, and the new one serves
     served.waits_for("anna", address, "/hall/packs/6", "pass passed")
     need("reject inadequate rejected" in served.text("anna", address, "/hall/packs/7"), "pack 7")
