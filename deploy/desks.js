@@ -1,6 +1,8 @@
 // What the front hands on to the office: a question of its form, and an act of a desk that is among
 // those of the person who asks. Run by nginx (njs 0.7).
 
+import fs from 'fs';
+
 const QUESTION = new RegExp('^/hall/(summary|lanes/[0-9]{1,3}|packs/[0-9]{1,20}' +
     '|batches/[A-Za-z0-9._-]{1,32}(/sample)?)$');
 const ACTS = '/hall/acts';
@@ -12,6 +14,11 @@ const MEMBER = '"[a-z]+"' + BLANK + ':' + BLANK + '(?:"[^"\\\\]*"|[0-9]+)';
 const BODY = new RegExp('^' + BLANK + '\\{' + BLANK + MEMBER +
     '(?:' + BLANK + ',' + BLANK + MEMBER + ')*' + BLANK + '\\}' + BLANK + '$');
 const DESK = new RegExp('"desk"' + BLANK + ':' + BLANK + '([0-9]{1,5})[^0-9]', 'g');
+
+// A name as hall-person lets people in, and the line of one who acts, as: anna "101 102";
+// Passwords of other names, which differ in capitals alone from one of these, are none to act by.
+const NAME = new RegExp('^[a-z0-9][a-z0-9._-]*$');
+const LINE = new RegExp('^([a-z0-9._-]+) "([0-9 ]*)";$');
 
 // Milliseconds for which a free door is waited for, and between two looks for one: at first, and at
 // most, so that many who wait don't look all the time.
@@ -25,9 +32,23 @@ function deskOf(body) {
     return found && found.length === 1 ? found[0].replace(/[^0-9]/g, '') : null;
 }
 
+// The desks of a person, read anew for each act, so that a changed line counts at once.
+function desksOf(r) {
+    const name = r.variables.remote_user || '';
+    const text = NAME.test(name) ? fs.readFileSync(`${r.variables.front}/desks`, 'utf8') : '';
+    const lines = text.split('\n').map((line) => line.match(LINE));
+    const found = lines.filter((line) => line !== null && line[1] === name);
+    return found.length === 1 ? found[0][2].split(' ') : [];
+}
+
 function isTheirs(r) {
     const desk = deskOf(r.requestText || '');
-    return desk !== null && r.variables.desks.split(' ').indexOf(desk) >= 0;
+    try {
+        return desk !== null && desksOf(r).indexOf(desk) >= 0;
+    } catch (fault) {
+        r.error(`the desks can't be read: ${fault.message}`);
+        return false;
+    }
 }
 
 function pause(time) {
@@ -36,7 +57,7 @@ function pause(time) {
 
 // Whether no door was free, so that nothing was sent to one.
 function isBusy(reply) {
-    return reply.status === 502 && reply.variables.upstream_addr === 'doors';
+    return reply.status === 502 && reply.variables.upstream_addr === reply.variables.doors;
 }
 
 async function handOn(r) {

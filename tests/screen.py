@@ -14,7 +14,7 @@ from selenium.webdriver.common.keys import Keys
 
 from browser import Browser, cut_between
 from clients import Lane, need
-from front_room import NAME, TOP, Front, make_hall, mount_room, run, wait_until
+from front_room import NAME, SHOWN, TOP, Front, make_hall, mount_room, run, wait_until
 from rows import rows_behind
 
 PEOPLE = {"anna": [101], "ben": [102], "carl": [103], "wall": []}
@@ -76,7 +76,7 @@ class Curl:
     DESK = 103
 
     def __init__(self, password):
-        self.words = ["curl", "-sS", "--cacert", "/etc/hall/front/hall.crt", "--resolve",
+        self.words = ["curl", "-sS", "--cacert", f"/etc/hall/front/{NAME}.crt", "--resolve",
                       f"{NAME}:443:127.0.0.1", "-u", f"carl:{password}"]
         self.request = 1
         self.told = {}
@@ -340,8 +340,7 @@ def another_machine(day):
 
 def check_list(browser):
     """Where the front serves a list, the desk shows it and its fields propose its names."""
-    os.makedirs("/run/hall")
-    with open("/run/hall/list.txt", "w", encoding="ascii") as said:
+    with open(f"{SHOWN}/list.txt", "w", encoding="ascii") as said:
         said.write(f"day {DAY}\nproduct lentils500 nominal 500.000 g tare none\n"
                    "batch LATE product lentils500 state running population 0\nrows 3 left 999997\n")
     browser.reload()
@@ -349,7 +348,7 @@ def check_list(browser):
     proposed = browser.run("return [...document.querySelectorAll('datalist option')]"
                            ".map((one) => one.value)")
     need({"lentils500", "LATE", "beans500"} <= set(proposed), f"proposed are {proposed}")
-    os.remove("/run/hall/list.txt")
+    os.remove(f"{SHOWN}/list.txt")
 
 
 def act_by_curl(day):
