@@ -1,4 +1,5 @@
-"""The scripts of examples/scales over pseudo-terminals. Run by tests/scales.sh.
+"""The static scales of adapters/devices and the scripts of examples/scales, over pseudo-terminals.
+Run by tests/scales.sh.
 
 The lines are written by hand after the makers' protocols: SICS of Mettler-Toledo, the standard
 format of A&D, and the 16 and 22 signs of Sartorius SBI.
@@ -15,11 +16,12 @@ import tty
 
 from clients import Hall, free_ports, make_pipes, need, plan
 
-SCALES = os.path.join(os.path.dirname(os.path.dirname(os.path.abspath(__file__))),
-                      "examples", "scales")
+TOP = os.path.dirname(os.path.dirname(os.path.abspath(__file__)))
+SCALES = os.path.join(TOP, "examples", "scales")
+ADAPTER = os.path.join(TOP, "adapters", "hall-adapter")
 SETUP = "day 2025-03-03\nproduct P 250\ntare P 2025-03-03 10\nopen A P\n"
 
-# For each dialect and unit: lines, each with the weight that it is, or nothing where it is none.
+# For each table and unit: lines, each with the weight that it is, or nothing where it is none.
 LINES = {
     ("sics", "g"): [
         (b"S S     251.000 g", b"251.000"), (b"S S    2510.00 g ", b"2510.000"),
@@ -75,12 +77,12 @@ def wait_until(there, seconds=20):
         time.sleep(0.01)
 
 
-def weigh(dialect, unit, lines, end, piece):
-    """What the script makes of lines that come over a serial line in pieces."""
+def weigh(table, unit, lines, end, piece):
+    """What `hall-adapter weights` makes of lines that come over a serial line in pieces."""
     scale, device = open_scale()
     os.write(scale, b"S S     111.000 g\r\n")
     wait_until(lambda: held(device))
-    script = subprocess.Popen([f"{SCALES}/weights.py", dialect, "--unit", unit], stdin=device,
+    script = subprocess.Popen([ADAPTER, "weights", table, "--unit", unit], stdin=device,
                               stdout=subprocess.PIPE, stderr=subprocess.PIPE)
     wait_until(lambda: not held(device))
     said = b"".join(line + end for line, _ in lines)
@@ -93,19 +95,19 @@ def weigh(dialect, unit, lines, end, piece):
     os.close(device)
     os.close(scale)
     told, counts = script.communicate(timeout=20)
-    need(script.returncode == 0, f"{dialect}: status {script.returncode}, {counts}")
+    need(script.returncode == 0, f"{table}: status {script.returncode}, {counts}")
     return told, counts.decode().splitlines()[-1]
 
 
-def check_dialects():
+def check_tables():
     tried = 0
-    for (dialect, unit), lines in LINES.items():
+    for (table, unit), lines in LINES.items():
         weights = [weight for _, weight in lines if weight]
         counts = f"weights: {len(weights)} handed on, {len(lines) - len(weights)} left out"
         for end, piece in ((b"\r\n", 1000), (b"\n", 1000), (b"\r\n", 3)):
-            told, said = weigh(dialect, unit, lines, end, piece)
-            need(told == b"".join(weight + b"\n" for weight in weights), f"{dialect}: {told}")
-            need(said == counts, f"{dialect}: {said} for {counts}")
+            told, said = weigh(table, unit, lines, end, piece)
+            need(told == b"".join(weight + b"\n" for weight in weights), f"{table}: {told}")
+            need(said == counts, f"{table}: {said} for {counts}")
             tried += len(lines)
     print(f"scales: {tried} lines over pseudo-terminals; what the device held before was dropped")
 
@@ -165,7 +167,7 @@ def check_lane(program, room):
 
 def main():
     program, room = sys.argv[1:]
-    check_dialects()
+    check_tables()
     check_gate(room)
     check_lane(os.path.abspath(program), room)
 
