@@ -5,12 +5,14 @@ usage: hall-adapter COMMAND ..
   devices                            the tables of devices, and which published form each follows
   weights DEVICE [--unit U]          a device's lines to weights a line, from standard input
   check MAP FILE                     what a recorded stream would give, for who commissions a line
+  record MAP                         takes registers down, a poll a line, for `check`
+  line SETTINGS                      joins a line to a lane of a hall, as a service
 """
 
 import argparse
 import sys
 
-from hall_adapter import check, weights
+from hall_adapter import check, line, record, weights
 from hall_adapter.devices import UNITS, BadTable, load, names
 
 
@@ -37,6 +39,10 @@ def parser() -> argparse.ArgumentParser:
     tried = commands.add_parser("check", help="what a recorded stream would give")
     tried.add_argument("map")
     tried.add_argument("file")
+    recorded = commands.add_parser("record", help="takes registers down, for `check`")
+    recorded.add_argument("map")
+    joined = commands.add_parser("line", help="joins a line to a lane of a hall")
+    joined.add_argument("settings")
     return words
 
 
@@ -47,8 +53,12 @@ def run(given: argparse.Namespace) -> int:
             return devices()
         case "weights":
             return weights.run(given.device, given.unit)
-        case _:
+        case "check":
             return check.run(given.map, given.file)
+        case "record":
+            return record.run(given.map)
+        case _:
+            return line.run(given.settings)
 
 
 def main(words: list[str]) -> int:

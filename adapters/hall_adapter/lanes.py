@@ -5,6 +5,10 @@ One weight is sent at a time, and the next one once it is acknowledged. The hall
 into the lane's gate before it acknowledges, so an opening belongs to the weight that is out, and an
 acknowledgement without one says that the pack was rejected. So no gate opens for another pack.
 
+A hall numbers weights from 1. On a new connection the hall may be a new one, so the weight that is
+out has the number 1 there: a new hall takes it, and one that goes on says how many it has taken.
+Where that was one the number 2 comes first, which a new hall passes over in silence.
+
 A weight that waits for longer than the pack takes to the gate isn't sent: the gate stayed shut, the
 pack was turned aside, and that is reported. An opening that comes too late isn't carried out. Where
 the hall is gone, the weight that is out is sent to the next one: the book has voided its row, or
@@ -15,6 +19,10 @@ from collections import deque
 from dataclasses import dataclass
 
 from hall_adapter.readings import Note, Reading, spell
+
+
+# A hall that is silent for so many seconds passes a number over.
+SILENCE = 2.0
 
 
 @dataclass
@@ -75,8 +83,12 @@ class Lane:
         self.within = within
         self.waiting: deque[Pack] = deque()
         self.out: Pack | None = None
-        # the number of the weight that is out, or of the next one
-        self.next = 1
+        # how many weights the hall has taken, and whether it is known to be the same hall
+        self.taken = 0
+        self.is_in_step = False
+        # the numbers under which the weight that is out was said, and when it was said last
+        self.said: set[int] = set()
+        self.said_at = 0.0
         self.packs = 0
         self.is_linked = False
         self.is_stopped = False
@@ -97,8 +109,8 @@ class Lane:
         """Sends the next weight where none is out; drops those whose packs have gone by."""
         actions = self.drop_late(now)
         if self.is_linked and self.out is None and self.waiting:
-            self.out = self.waiting.popleft()
-            actions.append(self.line())
+            self.out, self.said = self.waiting.popleft(), set()
+            actions.append(self.line(self.number(), now))
         return actions
 
     def drop_late(self, now: float) -> list[Action]:
@@ -113,32 +125,52 @@ class Lane:
             actions += [Note("unheard", f"{text} within {self.within} s"), Drop(pack)]
         return actions
 
-    def line(self) -> Send:
+    def number(self) -> int:
+        """The number under which the weight that is out is said next."""
+        if self.is_in_step or self.taken == 0:
+            return self.taken + 1
+        return 2 if self.taken == 1 else 1
+
+    def line(self, number: int, now: float) -> Send:
         """The line of the weight that is out."""
         assert self.out is not None
-        return Send(f"{self.next} {spell(self.out.reading.mass)}\n".encode())
+        self.said.add(number)
+        self.said_at = now
+        return Send(f"{number} {spell(self.out.reading.mass)}\n".encode())
 
     def linked(self, now: float) -> list[Action]:
-        """The hall takes lines: the one that is out is said again."""
-        self.is_linked = True
-        return [self.line()] if self.out else self.send(now)
+        """There is a new connection: the weight that is out is said again."""
+        self.is_linked, self.is_in_step = True, False
+        return [self.line(self.number(), now)] if self.out else self.send(now)
 
     def unlinked(self) -> None:
         """The connection is gone; the hall may still be there."""
         self.is_linked = False
 
+    def tick(self, now: float) -> list[Action]:
+        """Time has gone on: weights go stale, and silence may mean a new hall."""
+        is_silent = self.is_linked and self.out and now - self.said_at > SILENCE
+        if is_silent and not self.is_in_step and self.taken == 1:
+            return [self.line(1, now)]
+        return self.send(now)
+
     def hall_gone(self) -> list[Action]:
-        """The hall is gone: the next one counts from 1, and voids the row that it finds unsettled,
-        which is the newest one. A weight that is out is weighed by the next hall."""
-        self.is_linked = False
-        self.next = 1
-        out, newest = self.out, self.newest
-        self.out = self.newest = None
-        is_settled = out is not None and out.row is not None
+        """The hall is gone: the next one counts from 1. A weight that is out is weighed by it."""
+        self.is_linked = self.is_in_step = False
+        self.taken = 0
+        out, self.out = self.out, None
+        notes = self.hall_gone_by(out)
         if out:
             self.waiting.appendleft(out)
             out.row = None
-        if is_settled or newest is None or not newest.let_out:
+        return notes
+
+    def hall_gone_by(self, out: Pack | None) -> list[Action]:
+        """What is to be reported of the row that was the newest one, before the weight that is out:
+        the next hall voids a row that it finds unsettled."""
+        newest, self.newest = self.newest, None
+        is_settled = self.is_stopped or (out is not None and out.row is not None)
+        if newest is None or not newest.let_out or is_settled:
             return []
         text = f"the hall ended: its next start may void row {newest.row}, whose pack was let out"
         return [Note("voided", text)]
@@ -146,7 +178,7 @@ class Lane:
     def opened(self, row: int, now: float) -> list[Action]:
         """The hall opened the gate for a row."""
         pack = self.out
-        if pack is None or pack.row is not None:
+        if pack is None or (pack.row is not None and self.is_in_step):
             return [Note("opening", f"row {row} was let out, and no weight is out for it")]
         pack.row = row
         if pack.let_out:
@@ -159,21 +191,35 @@ class Lane:
         return [Open(pack)]
 
     def acknowledged(self, number: int, now: float) -> list[Action]:
-        """The hall has taken so many weights."""
-        pack = self.out
-        if pack is None or number < self.next:
+        """The hall says how many weights it has taken."""
+        if self.out is None:
             return []
-        if number > self.next:
-            return [
-                Note("ahead", f"the hall has taken {number} weights, and {self.next} were sent")
-            ]
+        if number in self.said:
+            return self.settle(number, now)
+        if number == self.taken:
+            was_in_step, self.is_in_step = self.is_in_step, True
+            return [] if was_in_step else [self.line(number + 1, now)]
+        if number < self.taken:
+            return []
+        return [
+            Note("ahead", f"the hall has taken {number} weights, and {self.taken} were its own")
+        ]
+
+    def settle(self, number: int, now: float) -> list[Action]:
+        """The weight that is out was taken under this number."""
+        pack = self.out
+        assert pack is not None
+        is_new_hall = number == 1 and self.taken > 0
+        actions: list[Action] = []
+        if is_new_hall:
+            actions += self.hall_gone_by(None)
         self.out, self.newest = None, pack
-        self.next += 1
-        settled: list[Action] = [Settle(pack, pack.row is not None)]
+        self.taken, self.is_in_step = number, True
+        actions.append(Settle(pack, pack.row is not None))
         if pack.let_out and pack.row is None:
             text = f"pack {pack.number} was let out, and the book, asked again, rejects it"
-            settled.append(Note("escaped", text))
-        return [*settled, *self.send(now)]
+            actions.append(Note("escaped", text))
+        return [*actions, *self.send(now)]
 
     def stop(self) -> None:
         """Stops the gate: it opens no more."""

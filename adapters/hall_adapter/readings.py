@@ -36,12 +36,13 @@ class Reading:
 @dataclass(frozen=True)
 class Note:
     """Something to be reported: its kind, a sentence, and for how many packs or lines it stands;
-    and the device's counter where a pack was counted and not weighed."""
+    the device's counter where a pack was counted and not weighed, and the row that it is about."""
 
     kind: str
     text: str
     count: int = 1
     counter: int | None = None
+    row: int | None = None
 
 
 def spell(mass: int) -> str:

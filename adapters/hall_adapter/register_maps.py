@@ -10,8 +10,10 @@
     [gate]    coil: set for pulse (0.05 s) to let a pack out; may be absent
     [reject]  register: a number of 16 bits that counts the packs that were turned aside; may be
               absent
+    [filler]  register: a holding register for advice, in hundredths of a gram, a number of 16 bits
+              with a sign; may be absent
 
-All registers are of one table and at most 100 apart, so that one request reads them at one moment.
+All registers but the filler's are of one table and at most 100 apart, so that one request reads them at one moment.
 Nothing here reads or writes.
 """
 
@@ -85,6 +87,7 @@ class RegisterMap:
     gate: int | None
     pulse: float
     reject: int | None
+    advice: int | None
 
     def first(self) -> int:
         """The first register that is read."""
@@ -153,7 +156,7 @@ def register_in(table: dict[str, Any], key: str, part: str) -> int | None:
 
 def map_of(table: dict[str, Any]) -> RegisterMap:
     """The map of a table that was read."""
-    only(table, {"modbus", "weight", "strobe", "state", "gate", "reject"}, "the map")
+    only(table, {"modbus", "weight", "strobe", "state", "gate", "reject", "filler"}, "the map")
     for part in ("modbus", "weight", "strobe"):
         need(isinstance(table.get(part), dict), f"a map needs [{part}]")
     strobe, state, gate = table["strobe"], table.get("state", {}), table.get("gate", {})
@@ -172,6 +175,7 @@ def map_of(table: dict[str, Any]) -> RegisterMap:
         register_in(table, "coil", "gate"),
         seconds_of(gate, "pulse", 0.05),
         register_in(table, "register", "reject"),
+        register_in(table, "register", "filler"),
     )
     need(made.limits.first < made.limits.last < WORD, "`first` is below `last`, of 16 bits")
     need(made.count() <= MOST_WORDS, f"the registers are over {MOST_WORDS} apart")

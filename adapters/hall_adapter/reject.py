@@ -74,7 +74,8 @@ class Confirmation:
             if one.row is None:
                 self.confirmed += one.is_sure
                 return []
-            return [Note("wrong", f"row {one.row} passed, and was seen behind the reject")]
+            text = f"row {one.row} passed, and was seen behind the reject"
+            return [Note("wrong", text, row=one.row)]
         return [Note("unexpected", "something was seen behind the reject, and no pack was due")]
 
     def tick(self, now: float) -> list[Note]:

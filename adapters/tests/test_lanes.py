@@ -69,6 +69,50 @@ class Lanes(unittest.TestCase):
         self.said(self.lane.linked(0.1), "send 1 262.000")
         self.said(self.lane.acknowledged(1, 0.1), "settle 1 reject")
 
+    def two_taken(self) -> None:
+        self.lane.linked(0)
+        self.weigh(262_000, 0, "send 1 262.000")
+        self.lane.acknowledged(1, 0)
+        self.weigh(263_000, 0, "send 2 263.000")
+        self.lane.acknowledged(2, 0)
+        self.weigh(264_000, 0, "send 3 264.000")
+        self.lane.unlinked()
+
+    def test_a_new_connection_to_the_same_hall(self) -> None:
+        self.two_taken()
+        self.said(self.lane.linked(0.1), "send 1 264.000")
+        self.said(self.lane.acknowledged(2, 0.1), "send 3 264.000")
+        self.said(self.lane.acknowledged(3, 0.1), "settle 3 reject")
+
+    def test_a_new_connection_to_a_hall_that_has_the_weight(self) -> None:
+        self.two_taken()
+        self.said(self.lane.linked(0.1), "send 1 264.000")
+        self.said(self.lane.acknowledged(3, 0.1), "settle 3 reject")
+        self.weigh(265_000, 0.2, "send 4 265.000")
+
+    def test_a_new_connection_to_a_new_hall(self) -> None:
+        self.two_taken()
+        self.said(self.lane.linked(0.1), "send 1 264.000")
+        self.said(self.lane.opened(12, 0.2), "open 12")
+        self.said(self.lane.acknowledged(1, 0.2), "settle 3 pass")
+        self.weigh(265_000, 0.2, "send 2 265.000")
+
+    def test_a_new_connection_behind_one_weight(self) -> None:
+        for is_new in (False, True):
+            self.lane = Lane(within=0.5)
+            self.lane.linked(0)
+            self.weigh(262_000, 0, "send 1 262.000")
+            self.lane.acknowledged(1, 0)
+            self.weigh(263_000, 0, "send 2 263.000")
+            self.lane.unlinked()
+            self.said(self.lane.linked(0.1), "send 2 263.000")
+            if is_new:
+                self.said(self.lane.tick(1))
+                self.said(self.lane.tick(2.2), "send 1 263.000")
+                self.said(self.lane.acknowledged(1, 2.3), "settle 2 reject")
+            else:
+                self.said(self.lane.acknowledged(2, 0.2), "settle 2 reject")
+
     def test_a_hall_that_ends_before_it_opened(self) -> None:
         self.lane.linked(0)
         self.weigh(262_000, 0, "send 1 262.000")
