@@ -46,6 +46,9 @@ class HallLink(asyncio.Protocol):
         self.held = b""
         self.gate: int | None = None
         self.gate_held = b""
+        # whether the hall has the gate open: it opens it at the first pack that passes
+        self.is_gate_shared = False
+        self.is_closing = False
 
     # ---- the port
 
@@ -91,6 +94,7 @@ class HallLink(asyncio.Protocol):
                 await loop.create_connection(lambda: self, HOST, self.port)
                 await self.lost.wait()
             except ConnectionRefusedError:
+                self.hall_gone()
                 self.on_cut(True)
             except OSError:
                 pass
@@ -98,11 +102,14 @@ class HallLink(asyncio.Protocol):
 
     # ---- the gate
 
-    async def open_gate(self) -> None:
-        """Opens the lane's gate, once it is there. It is opened for both ways, so that it stays
-        open while no hall runs; once it is closed, the hall can't open it any more."""
+    async def find_gate(self) -> None:
+        """Waits until the lane's gate is there, and opens it."""
         while not os.path.exists(self.gate_path):
             await asyncio.sleep(RETRY)
+        self.open_gate()
+
+    def open_gate(self) -> None:
+        """Opens the lane's gate, for both ways, so that it stays open while no hall runs."""
         if not stat.S_ISFIFO(os.stat(self.gate_path).st_mode):
             raise BadGate(f"{self.gate_path} is no named pipe")
         self.gate = os.open(self.gate_path, os.O_RDWR | os.O_NONBLOCK)
@@ -119,15 +126,26 @@ class HallLink(asyncio.Protocol):
             pass
         *lines, self.gate_held = self.gate_held.split(b"\n")
         for line in lines:
+            self.is_gate_shared = True
             if found := OPENING.fullmatch(line):
                 self.on_opened(int(found[1]))
             else:
                 self.on_bad(f"{self.gate_path} has the line {line!r}")
+        if self.is_closing:
+            self.close_gate()
 
     def close_gate(self) -> None:
-        """Closes the gate for the hall: the next pack that passes is told to have stayed."""
-        self.read_gate()
-        if self.gate is not None:
+        """Closes the gate for the hall, so that it fails at the next pack that passes, which is
+        then told to have stayed. A hall that hasn't opened it yet would wait for it: there it is
+        closed behind the next opening."""
+        self.is_closing = True
+        if self.gate is not None and self.is_gate_shared:
             asyncio.get_running_loop().remove_reader(self.gate)
             gate, self.gate = self.gate, None
             os.close(gate)
+
+    def hall_gone(self) -> None:
+        """The hall has the gate open no more; the next one has to find it."""
+        self.is_gate_shared = False
+        if self.gate is None and self.is_closing:
+            self.open_gate()

@@ -261,6 +261,7 @@ class Line:
 
     def stop(self, note: Note) -> None:
         """Stops the gate. The hall is told by its next opening, which finds no gate."""
+        self.link.read_gate()
         self.lane.stop()
         self.metrics.set("hall_line_stopped", 1)
         self.link.close_gate()
@@ -324,7 +325,7 @@ class Line:
         self.metrics.set("hall_line_stopped", 0)
         self.metrics.set("hall_line_device_linked", 0)
         self.metrics.set("hall_line_hall_linked", 0)
-        await self.link.open_gate()
+        await self.link.find_gate()
         if self.registers:
             self.poller = self.start_poller()
         try:
