@@ -244,7 +244,7 @@ def check_kills(program: str, folder: str, packs: int, seed: str) -> None:
     log = f"{room.folder}/rows"
     gate = f'[gate]\ncommand = ["sh", "-c", "echo $PACK >>{log}"]\n'
     line, way = open_line(room, "serial", "ishida", 1, gate=gate)
-    kills = Kills(room, seed, times=max(3, packs // 20))
+    kills = Kills(room, seed, times=max(3, packs // 10))
     kills.start()
     sent = []
     while kills.is_alive() or len(sent) < packs:
@@ -410,9 +410,9 @@ def check_modbus(program: str, folder: str, packs: int, seed: str) -> None:
         cut, way, words = modbus_way(room, kind)
         device = ModbusDevice(*words)
         device.strobe = 65_530
+        device.put()
         filler = f"[filler]\npacks = 5\ntarget = 250.0\nband = 0.1\n"
         line = modbus_line(room, way, filler)
-        device.put()
         wait_until(lambda: line.metric("hall_line_device_linked") == 1, "the device is there")
         time.sleep(0.2)
         lost = drive_modbus(device, line, cut, packs, random.Random(f"{seed} {kind}"))
@@ -477,11 +477,8 @@ def drive_modbus(
         device.pack(mass)
         heard += 1
         wait_until(
-            lambda: sum(
-                line.metric("hall_line_packs_total", one) or 0 for one in ("pass", "reject")
-            )
-            == heard,
-            f"pack {place} is judged: {line.said()[-5:]}",
+            lambda: (device.take_lines(0.01), len(device.opened()) == heard)[1],
+            f"pack {place} is let out: {line.said()[-5:]}",
         )
     need(line.notes()["skip"] == lost, f"{lost} packs were lost: {line.notes()}")
     return lost + motion

@@ -7,12 +7,13 @@ usage: hall-adapter COMMAND ..
   check MAP FILE                     what a recorded stream would give, for who commissions a line
   record MAP                         takes registers down, a poll a line, for `check`
   line SETTINGS                      joins a line to a lane of a hall, as a service
+  metrics SETTINGS                   hands out the numbers of a hall for Prometheus, as a service
 """
 
 import argparse
 import sys
 
-from hall_adapter import check, line, record, weights
+from hall_adapter import check, line, record, watch, weights
 from hall_adapter.devices import UNITS, BadTable, load, names
 
 
@@ -43,6 +44,8 @@ def parser() -> argparse.ArgumentParser:
     recorded.add_argument("map")
     joined = commands.add_parser("line", help="joins a line to a lane of a hall")
     joined.add_argument("settings")
+    watched = commands.add_parser("metrics", help="hands out the numbers of a hall for Prometheus")
+    watched.add_argument("settings")
     return words
 
 
@@ -57,6 +60,8 @@ def run(given: argparse.Namespace) -> int:
             return check.run(given.map, given.file)
         case "record":
             return record.run(given.map)
+        case "metrics":
+            return watch.run(given.settings)
         case _:
             return line.run(given.settings)
 

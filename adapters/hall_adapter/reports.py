@@ -8,6 +8,8 @@ from hall_adapter.metrics import Metrics
 from hall_adapter.readings import REASONS, Note
 from hall_adapter.settings import Settings
 
+# Kinds of faults that are counted from 0 on, so that the first one is a rise.
+FAULTS = ("escaped", "wrong", "unexpected", "unheard", "skip", "repeat", "gate", "voided", "shut")
 # What a device says on a good day too: counted, and nothing more.
 QUIET = {"word", "motion", "light", "underload", "negative"}
 
@@ -17,6 +19,10 @@ class Reports:
 
     def __init__(self, settings: Settings) -> None:
         self.metrics = Metrics(line=settings.name, lane=str(settings.lane))
+        for kind in FAULTS:
+            self.metrics.add("hall_line_faults_total", 0, kind=kind)
+        for signal in ("pass", "reject", "unheard"):
+            self.metrics.add("hall_line_packs_total", 0, signal=signal)
         self.alarms = Alarms(settings.alarm, settings.name) if settings.alarm else None
         self.messages = Messages(settings.broker, settings.name) if settings.broker else None
 
