@@ -28,6 +28,9 @@ from drawn import garvens, ishida
 from rows import Piles, Row
 
 MODBUS_PORT = 5020
+# A fault for each so many packs over Modbus, in a drawn order.
+PERIOD_OF_FAULTS = 5
+FAULTS = ["skip", "motion", "away"]
 # The most from a weight to the gate at the 99th of 100, in seconds.
 FASTEST = 0.030
 GOOD, LIGHT = 262_000, 230_000
@@ -409,7 +412,7 @@ def check_modbus(program: str, folder: str, packs: int, seed: str) -> None:
         room.start()
         cut, way, words = modbus_way(room, kind)
         device = ModbusDevice(*words)
-        device.strobe = 65_530
+        device.strobe = 65_533
         device.put()
         filler = f"[filler]\npacks = 5\ntarget = 250.0\nband = 0.1\n"
         line = modbus_line(room, way, filler)
@@ -453,22 +456,25 @@ def drive_modbus(
 ) -> int:
     """Weighs packs, and gives how many the line has to have reported as lost."""
     lost, heard, motion = 0, 0, 0
+    faults = FAULTS * (packs // (PERIOD_OF_FAULTS * len(FAULTS)) + 1)
+    draw.shuffle(faults)
     for place in range(packs):
-        mass, fault = GOOD + place * 100, draw.random() if place > 3 else 1.0
-        if fault < 0.05:
+        mass = GOOD + place * 100
+        fault = faults.pop() if faults and place % PERIOD_OF_FAULTS == PERIOD_OF_FAULTS - 1 else ""
+        if fault == "skip":
             # two packs between two polls: the first one is missed
             device.strobe += 1
             lost += 1
-        elif fault < 0.1:
+        elif fault == "motion":
             device.pack(mass, state=1)
             motion += 1
             wait_until(lambda: line.notes()["motion"] == motion, "a pack in motion is reported")
             continue
-        elif fault < 0.13:
+        elif fault == "away":
             # the link is away for a moment, and a pack comes meanwhile
             away = line.notes()["device"]
             cut_device(device, cut, True)
-            wait_until(lambda: line.notes()["device"] > away, "the device is away", 20)
+            wait_until(lambda: line.notes()["device"] > away, "the device is away")
             device.strobe += 1
             lost += 1
             cut_device(device, cut, False)

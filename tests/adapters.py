@@ -6,13 +6,12 @@
 import os
 import sys
 
-sys.path.insert(
-    0,
-    os.path.join(os.path.dirname(os.path.dirname(os.path.abspath(__file__))), "adapters", "tests"),
-)
+ADAPTERS = os.path.join(os.path.dirname(os.path.dirname(os.path.abspath(__file__))), "adapters")
+sys.path[:0] = [ADAPTERS, os.path.join(ADAPTERS, "tests")]
 
 from adapter_room import Room, say
 from adapter_streams import check_streams
+from adapter_watch import check_watched
 from adapter_ways import check_escaped, check_kills, check_modbus, check_times, check_wrong
 
 
@@ -32,6 +31,7 @@ CHECKS = {
     "kills": check_kills,
     "wrong": check_wrong,
     "escaped": check_escaped,
+    "watched": check_watched,
     "times": check_times,
 }
 

@@ -232,7 +232,7 @@ class Registers:
             return []
         if strobe == self.map.limits.first and strobe != counter.after(before):
             counter.begin(strobe)
-            return self.engine.note(Note("anew", f"the strobe began anew after {before}"))
+            return self.engine.note(Note("anew", f"the strobe began anew after {before}: not weighed"))
         if was_away:
             counter.begin(strobe)
             count = counter.between(before, strobe)
