@@ -13,7 +13,7 @@ from collections import Counter
 from collections.abc import Callable, Iterator
 
 from clients import Hall, Wrong, need, plan
-from rows import Row, rows_behind
+from rows import Piles, Row, rows_behind
 
 TOP = os.path.dirname(os.path.dirname(os.path.abspath(__file__)))
 ADAPTER = os.path.join(TOP, "adapters", "hall-adapter")
@@ -87,6 +87,14 @@ def listening() -> str:
     """The system's table of TCP sockets."""
     with open("/proc/net/tcp", encoding="ascii") as table:
         return table.read()
+
+
+def piles_of(rows: list[Row]) -> Piles:
+    """In which pile each pack lies."""
+    piles = Piles()
+    for row in rows:
+        piles.add(row)
+    return piles
 
 
 class SerialLine:
