@@ -23,7 +23,7 @@ FIRST_LANE = 9001
 FIRST_METRICS = 9471
 FIRST_DEVICE = 7000
 # Seconds that anything may take that has to come.
-PATIENCE = 60.0
+PATIENCE = 180.0
 
 
 def wait_until(holds: Callable[[], object], said: str, seconds: float = PATIENCE) -> None:
