@@ -182,7 +182,12 @@ class Line:
                 [ADAPTER, "line", f"{room.folder}/{name}.toml"], stderr=errors
             )
         Hall.running.append(self.process)
-        wait_until(lambda: self.metric("hall_line_hall_linked") == 1, f"{name} reaches its lane")
+        wait_until(self.is_linked, f"{name} reaches its lane")
+
+    def is_linked(self) -> bool:
+        """Whether it reaches its lane; it has to run."""
+        need(self.process.poll() is None, f"{self.name} ended: {self.said()[-5:]}")
+        return self.metric("hall_line_hall_linked") == 1
 
     def settings(self, room: Room, source: str, more: str, gate: str) -> str:
         """The settings of the line. A source over Modbus has its gate in the map."""
