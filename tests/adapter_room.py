@@ -13,7 +13,7 @@ from collections import Counter
 from collections.abc import Callable, Iterator
 
 from clients import Hall, Wrong, need, plan
-from rows import Row, rows_behind
+from rows import Piles, Row, rows_behind
 
 TOP = os.path.dirname(os.path.dirname(os.path.abspath(__file__)))
 ADAPTER = os.path.join(TOP, "adapters", "hall-adapter")
@@ -23,7 +23,7 @@ FIRST_LANE = 9001
 FIRST_METRICS = 9471
 FIRST_DEVICE = 7000
 # Seconds that anything may take that has to come.
-PATIENCE = 60.0
+PATIENCE = 180.0
 
 
 def wait_until(holds: Callable[[], object], said: str, seconds: float = PATIENCE) -> None:
@@ -87,6 +87,14 @@ def listening() -> str:
     """The system's table of TCP sockets."""
     with open("/proc/net/tcp", encoding="ascii") as table:
         return table.read()
+
+
+def piles_of(rows: list[Row]) -> Piles:
+    """In which pile each pack lies."""
+    piles = Piles()
+    for row in rows:
+        piles.add(row)
+    return piles
 
 
 class SerialLine:
@@ -174,7 +182,12 @@ class Line:
                 [ADAPTER, "line", f"{room.folder}/{name}.toml"], stderr=errors
             )
         Hall.running.append(self.process)
-        wait_until(lambda: self.metric("hall_line_hall_linked") == 1, f"{name} reaches its lane")
+        wait_until(self.is_linked, f"{name} reaches its lane")
+
+    def is_linked(self) -> bool:
+        """Whether it reaches its lane; it has to run."""
+        need(self.process.poll() is None, f"{self.name} ended: {self.said()[-5:]}")
+        return self.metric("hall_line_hall_linked") == 1
 
     def settings(self, room: Room, source: str, more: str, gate: str) -> str:
         """The settings of the line. A source over Modbus has its gate in the map."""

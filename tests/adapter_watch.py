@@ -184,12 +184,14 @@ def check_watched(program: str, folder: str, packs: int, seed: str) -> None:
     room.start()
     broker, metrics = Broker(room.folder), start_metrics(room)
     more = (
-        "within = 10.0\n[reject]\nearliest = 0.01\nlatest = 1.0\n"
+        "within = 30.0\n[reject]\nearliest = 0.01\nlatest = 15.0\n"
         f'pulses = ["sleep", "1000"]\n[mqtt]\nhost = "127.0.0.1"\nport = {BROKER}\n'
+        f'[filler]\npacks = 5\ntarget = 262.0\nband = 0.5\nfile = "{room.folder}/advice"\n'
     )
     line, way = open_line(room, "serial", "garvens", 1, more)
     prometheus = Prometheus(room.folder)
     check_numbers(broker, prometheus, way)
+    check_advice(broker, f"{room.folder}/advice")
     check_broker_away(broker, way)
     check_stopped(broker, prometheus, line, way)
     line.end()
@@ -241,6 +243,15 @@ def check_numbers(broker: Broker, prometheus: Prometheus, way: SerialLine | TcpD
     say(f"{PACKS} packs: a message by mosquitto for each, 13 numbers by prometheus as worked out")
 
 
+def check_advice(broker: Broker, path: str) -> None:
+    """The mean of each five packs beside 262 g: the first are 0.1 to 0.5 g above, 0.3 g in the
+    mean, which is within the dead band; the next 0.6 to 1 g, 0.8 g in the mean."""
+    expected = ["+0.000", "+0.800"]
+    wait_until(lambda: broker.messages("hall/garvens-serial/advice") == expected, "advice comes")
+    with open(path, encoding="ascii") as said:
+        need(said.read().split() == expected, "the filler's file has the same advice")
+
+
 def check_broker_away(broker: Broker, way: SerialLine | TcpDevice) -> None:
     """A broker that is away: packs are weighed, and their messages wait."""
     topic = "hall/garvens-serial/pack"
@@ -262,9 +273,9 @@ def check_stopped(
     broker: Broker, prometheus: Prometheus, line: Line, way: SerialLine | TcpDevice
 ) -> None:
     """A reject that isn't confirmed stops the gate, which prometheus and the broker hear of."""
-    began = time.monotonic()
     way.send(garvens(PACKS + 3, LIGHT))
     wait_until(lambda: line.metric("hall_line_stopped") == 1, "the gate is stopped")
+    began = time.monotonic()
     wait_until(
         lambda: {"HallLineStopped", "HallRejectUnconfirmed"} <= prometheus.firing(),
         f"the rules fire: {prometheus.firing()}",
@@ -274,7 +285,9 @@ def check_stopped(
     wait_until(lambda: broker.messages(state)[-1:] == ["stopped"], "the broker hears of it")
     kinds = [json.loads(text)["kind"] for text in broker.messages("hall/garvens-serial/report")]
     need({"escaped", "stopped"} <= set(kinds), f"the reports are {kinds}")
-    say(f"a reject that isn't confirmed: prometheus fires {seconds:.1f} s after its weight")
+    say(
+        f"a reject that isn't confirmed: prometheus fires {seconds:.1f} s after the gate is stopped"
+    )
 
 
 def check_files() -> None:

@@ -1,5 +1,5 @@
-"""Ways from a weight to the gate: how long they take, halls that are killed, rejects that are
-confirmed or not, and Modbus. For tests/adapters.py."""
+"""Ways from a weight to the gate: how long they take, halls and lines that are killed, and streams
+that are taken down. For tests/adapters.py."""
 
 import os
 import random
@@ -10,131 +10,27 @@ import threading
 import time
 from collections.abc import Callable
 
+from adapter_modbus import MODBUS_PORT, ModbusDevice, modbus_line
 from adapter_room import (
+    ADAPTER,
     PATIENCE,
     Line,
     Room,
     SerialLine,
-    TOP,
     open_line,
     opened_rows,
+    piles_of,
     say,
     settled,
     wait_until,
 )
 from adapter_streams import PERIOD
-from clients import Hall, need
-from drawn import garvens, ishida
-from rows import Piles, Row
+from clients import need
+from drawn import DRAWN, garvens, ishida
 
-MODBUS_PORT = 5020
-# A fault for each so many packs over Modbus, in a drawn order.
-PERIOD_OF_FAULTS = 5
-FAULTS = ["skip", "motion", "away"]
 # The most from a weight to the gate at the 99th of 100, in seconds.
 FASTEST = 0.030
-GOOD, LIGHT = 262_000, 230_000
-MAP = """
-[modbus]
-{way}
-[weight]
-register = 0
-scale = 0.1
-[strobe]
-register = 2
-[state]
-register = 3
-values = {{ 0 = "weight", 1 = "motion", 2 = "invalid" }}
-[gate]
-coil = 0
-[reject]
-register = 4
-[filler]
-register = 40
-"""
-
-
-class ModbusDevice:
-    """A device over Modbus: pymodbus' own server, in a process of its own."""
-
-    def __init__(self, *words: str) -> None:
-        self.words = words
-        self.process = self.begin()
-        self.strobe = 0
-        self.rejects = 0
-        self.steps = 0
-        self.coils: list[tuple[int, float]] = []
-        self.advice: list[int] = []
-
-    def begin(self) -> "subprocess.Popen[bytes]":
-        """Starts the server."""
-        process = subprocess.Popen(
-            ["/usr/bin/python3", "-B", f"{TOP}/tests/modbus_device.py", *self.words],
-            stdin=subprocess.PIPE,
-            stdout=subprocess.PIPE,
-            bufsize=0,
-        )
-        Hall.running.append(process)
-        return process
-
-    def put(self, state: int = 0) -> None:
-        """Sets all registers, and waits until they are set."""
-        assert self.process.stdin is not None
-        words = [0, self.steps, self.strobe, state, self.rejects]
-        self.process.stdin.write(" ".join(map(str, [0, *words])).encode() + b"\n")
-        while self.take_line(PATIENCE) != "ok":
-            pass
-
-    def take_line(self, seconds: float) -> str:
-        """The next line that it says; nothing where none comes in so many seconds."""
-        assert self.process.stdout is not None
-        if not select.select([self.process.stdout], [], [], seconds)[0]:
-            return ""
-        line = self.process.stdout.readline().decode().strip()
-        need(bool(line), "the device over Modbus ended")
-        word, *rest = line.split()
-        if word == "coil":
-            self.coils.append((int(rest[0]), float(rest[1])))
-        elif word == "advice":
-            self.advice.append(int(rest[0]))
-        return line
-
-    def take_lines(self, seconds: float = 0.0) -> None:
-        """Takes down all that it says, and waits so many seconds for the first."""
-        while self.take_line(seconds):
-            seconds = 0.0
-
-    def pack(self, mass: int, state: int = 0) -> float:
-        """Weighs a pack, and gives when."""
-        self.steps, self.strobe = mass // 100, (self.strobe + 1) % 65_536
-        began = time.monotonic()
-        self.put(state)
-        return began
-
-    def rejected(self) -> None:
-        """A pack was seen behind the reject."""
-        self.rejects += 1
-        self.put()
-
-    def opened(self) -> list[float]:
-        """When its coil was set."""
-        self.take_lines()
-        return [at for value, at in self.coils if value]
-
-    def end(self) -> None:
-        """Ends it."""
-        self.process.kill()
-        self.process.wait()
-
-
-def modbus_line(room: Room, way: str, more: str = "") -> Line:
-    """A line over Modbus."""
-    path = f"{room.folder}/map.toml"
-    with open(path, "w", encoding="ascii") as text:
-        text.write(MAP.format(way=way))
-    return Line(room, "modbus", 1, f'map = "{path}"', more)
-
-
+GOOD = 262_000
 # ---- how long it takes
 
 
@@ -210,14 +106,6 @@ def check_times(program: str, folder: str, packs: int, seed: str) -> None:
 # ---- halls that are killed
 
 
-def piles_of(rows: list[Row]) -> Piles:
-    """In which pile each pack lies."""
-    piles = Piles()
-    for row in rows:
-        piles.add(row)
-    return piles
-
-
 class Kills(threading.Thread):
     """Kills a hall at drawn moments, and starts it again."""
 
@@ -289,215 +177,81 @@ def compare_kills(room: Room, line: Line, sent: list[int], log: str) -> None:
     need(len(missing) == unheard, f"{len(missing)} packs are missing, {unheard} reported")
 
 
-# ---- rejects
-
-
-def last_stop(room: Room) -> str | None:
-    """What the newest stop of a lane says of its gate."""
-    stops = [row.act["prior"] for row in room.all_rows() if row.act["act"] == "stop"]
-    return stops[-1] if stops else None
-
-
-def check_wrong(program: str, folder: str, packs: int, seed: str) -> None:
-    """Over Modbus: a pack that passed and is seen behind the reject stops the gate. The book takes
-    it back by a desk, and the next pack that passes is told to have stayed."""
-    room = Room(program, f"{folder}/wrong", 1)
+def check_again(program: str, folder: str, packs: int, seed: str) -> None:
+    """A line is killed and started again beside a hall that goes on: no pack is weighed twice."""
+    room = Room(program, f"{folder}/again", 1)
     room.start()
-    device = ModbusDevice("tcp", str(MODBUS_PORT))
-    desk = '[desk]\nurl = "http://127.0.0.1:8471"\nnumber = 163\n'
-    more = f"within = 10.0\n[reject]\nearliest = 0.01\nlatest = 4.0\n{desk}"
-    line = modbus_line(room, f'tcp = "127.0.0.1:{MODBUS_PORT}"', more)
-    wait_until(lambda: line.metric("hall_line_device_linked") == 1, "the device is there")
-    device.pack(LIGHT)
-    wait_until(lambda: line.metric("hall_line_packs_total", "reject") == 1, "a reject")
-    time.sleep(0.05)
-    device.rejected()
-    wait_until(lambda: line.metric("hall_line_rejects_confirmed_total") == 1, "it is confirmed")
-    need(line.metric("hall_line_stopped") == 0, f"the gate is stopped: {line.said()}")
-    # the pack before it isn't due any more, so that this one is taken for nothing else
-    time.sleep(4.2)
-    device.pack(GOOD)
-    wait_until(lambda: len(device.opened()) == 1, "a pack is let out")
-    device.rejected()
-    wait_until(lambda: line.metric("hall_line_stopped") == 1, "the gate is stopped")
-    wrong = room.rows(1)[-1].number
-    device.pack(GOOD + 100)
-    wait_until(lambda: last_stop(room) == "stayed", "the pack behind it is told to have stayed")
-    wait_until(
-        lambda: {"act": "void", "pack": wrong} in [row.act for row in room.all_rows()],
-        f"row {wrong} is voided: {line.said()}",
-    )
-    need(len(device.opened()) == 1, "a stopped gate opened")
-    piles = piles_of(room.all_rows())
-    need(
-        [piles.packs[row.number][0] for row in room.rows(1)] == ["rejected", "voided", "rejected"],
-        f"the piles are {piles.packs}",
-    )
-    need(line.notes()["wrong"] == 1 and line.notes()["stopped"] == 1, f"{line.notes()}")
-    say(
-        "a pack that passed and was seen behind the reject stopped the gate, and was voided by desk"
-        " 163; the next one stands as stayed"
-    )
-    line.end()
-    device.end()
-    room.stop()
-
-
-def check_escaped(program: str, folder: str, packs: int, seed: str) -> None:
-    """By pulses of a command: a pack that was rejected and isn't seen stops the gate."""
-    room = Room(program, f"{folder}/escaped", 1)
-    room.start()
-    pulses, mails = f"{room.folder}/pulses", f"{room.folder}/mails"
-    os.mkfifo(pulses)
-    photocell = os.open(pulses, os.O_RDWR)
-    more = (
-        f'within = 10.0\n[reject]\nearliest = 0.01\nlatest = 2.0\npulses = ["cat", "{pulses}"]\n'
-        f'[alarm]\ncommand = ["sh", "-c", "cat >>{mails}"]\nevery = 600\n'
-    )
-    line, way = open_line(room, "serial", "garvens", 1, more)
-    for counter in (1, 2):
-        way.send(garvens(counter, LIGHT))
-        wait_until(lambda: line.metric("hall_line_packs_total", "reject") == counter, "a reject")
-        os.write(photocell, b"edge\n")
-        wait_until(
-            lambda: line.metric("hall_line_rejects_confirmed_total") == counter, "it is confirmed"
-        )
-    way.send(garvens(3, LIGHT))
-    wait_until(lambda: line.metric("hall_line_stopped") == 1, "the gate is stopped")
-    # no pack has passed yet, so the hall hasn't the gate open: the first that passes is to be voided
-    way.send(garvens(4, GOOD))
-    wait_until(lambda: line.notes()["void"] == 1, "the pack behind it is to be voided")
-    way.send(garvens(5, GOOD))
-    wait_until(lambda: last_stop(room) == "stayed", "the next one is told to have stayed")
-    line.read_gate()
-    need(not line.opened, "a stopped gate opened")
-    wait_until(lambda: os.path.exists(mails), "an alarm")
-    settled(lambda: os.path.getsize(mails))
-    with open(mails, encoding="utf-8") as source:
-        kinds = [text.split(": ")[1] for text in source]
-    need(len(kinds) == len(set(kinds)) and {"escaped", "stopped"} <= set(kinds), f"alarms {kinds}")
-    say(
-        "a pack that was rejected and not seen stopped the gate; of the next two that passed one was"
-        " reported to be voided, and one stands as stayed;"
-        f" alarms {', '.join(kinds)}, once each"
-    )
-    line.end()
-    room.stop()
-
-
-# ---- Modbus
-
-
-class Bridge(threading.Thread):
-    """Two serial lines joined end to end, as a cable joins two devices; it may be cut."""
-
-    def __init__(self, *lines: SerialLine) -> None:
-        super().__init__(daemon=True)
-        self.lines = lines
-        self.is_cut = False
-
-    def run(self) -> None:
-        ends = [line.scale for line in self.lines]
-        while True:
-            for end in select.select(ends, [], [])[0]:
-                piece = os.read(end, 4096)
-                if not self.is_cut:
-                    os.write(ends[1 - ends.index(end)], piece)
-
-
-def check_modbus(program: str, folder: str, packs: int, seed: str) -> None:
-    """Packs over Modbus TCP and RTU, some of them too quick, in motion, or while the link is away."""
-    for kind in ("tcp", "rtu"):
-        room = Room(program, f"{folder}/modbus-{kind}", 1)
-        room.start()
-        cut, way, words = modbus_way(room, kind)
-        device = ModbusDevice(*words)
-        device.strobe = 65_533
-        device.put()
-        filler = f"[filler]\npacks = 5\ntarget = 250.0\nband = 0.1\n"
-        line = modbus_line(room, way, filler)
+    path = SerialLine(f"{room.folder}/line")
+    source = f'device = "garvens"\n[source]\nserial = "{path.path}"'
+    sent = []
+    for life in range(4):
+        line = Line(room, f"life-{life}", 1, source)
         wait_until(lambda: line.metric("hall_line_device_linked") == 1, "the device is there")
-        time.sleep(0.2)
-        lost = drive_modbus(device, line, cut, packs, random.Random(f"{seed} {kind}"))
-        settled(lambda: (os.path.getsize(room.book), device.take_lines()))
-        passed = [row for row in room.rows(1) if row.signal == "pass"]
-        need(len(device.opened()) == len(passed), f"{len(device.opened())} openings, {len(passed)}")
-        need(device.advice and all(advice < 32_768 for advice in device.advice), "no advice came")
-        say(
-            f"modbus {kind}: {packs} packs, {lost} of them lost and reported; the coil was set"
-            f" {len(passed)} times, advice came {len(device.advice)} times"
-        )
-        line.end()
-        device.end()
-        room.stop()
+        for _ in range(life + 2):
+            sent.append(GOOD + len(sent) * 100)
+            path.send(garvens(len(sent), sent[-1]))
+            wait_until(lambda: (line.read_gate(), len(line.opened))[1] == 1, "a pack is let out")
+            line.opened.clear()
+            count = len(sent) - life * (life + 3) // 2
+            passed = 'signal="pass"'
+            wait_until(lambda: line.metric("hall_line_packs_total", passed) == count, "it passed")
+        line.process.kill()
+        line.process.wait()
+    rows = [row.act["gross"] for row in room.rows(1)]
+    need(rows == sent, f"the book has {rows} of {sent}")
+    say(f"a line that was killed three times beside a hall: {len(sent)} packs, each once")
+    room.stop()
 
 
-def modbus_way(room: Room, kind: str) -> tuple[Callable[[bool], None], str, tuple[str, str]]:
-    """How a way is cut, its settings, and the words of its device."""
-    if kind == "tcp":
-        return lambda is_cut: None, f'tcp = "127.0.0.1:{MODBUS_PORT}"', ("tcp", str(MODBUS_PORT))
-    ours, theirs = SerialLine(f"{room.folder}/ours"), SerialLine(f"{room.folder}/theirs")
-    bridge = Bridge(ours, theirs)
-    bridge.start()
-
-    def cut(is_cut: bool) -> None:
-        bridge.is_cut = is_cut
-
-    way = f'serial = "{ours.path}"\nbaud = 115200\nparity = "N"'
-    return cut, way, ("rtu", theirs.path)
+# ---- what was recorded
 
 
-def drive_modbus(
-    device: ModbusDevice,
-    line: Line,
-    cut: Callable[[bool], None],
-    packs: int,
-    draw: random.Random,
-) -> int:
-    """Weighs packs, and gives how many the line has to have reported as lost."""
-    lost, heard, motion = 0, 0, 0
-    faults = FAULTS * (packs // (PERIOD_OF_FAULTS * len(FAULTS)) + 1)
-    draw.shuffle(faults)
-    for place in range(packs):
-        mass = GOOD + place * 100
-        fault = faults.pop() if faults and place % PERIOD_OF_FAULTS == PERIOD_OF_FAULTS - 1 else ""
-        if fault == "skip":
-            # two packs between two polls: the first one is missed
-            device.strobe += 1
-            lost += 1
-        elif fault == "motion":
-            device.pack(mass, state=1)
-            motion += 1
-            wait_until(lambda: line.notes()["motion"] == motion, "a pack in motion is reported")
-            continue
-        elif fault == "away":
-            # the link is away for a moment, and a pack comes meanwhile
-            away = line.notes()["device"]
-            cut_device(device, cut, True)
-            wait_until(lambda: line.notes()["device"] > away, "the device is away")
-            device.strobe += 1
-            lost += 1
-            cut_device(device, cut, False)
-            wait_until(lambda: line.metric("hall_line_device_linked") == 1, "it is back")
-            wait_until(lambda: line.notes()["skip"] == lost, f"{lost} lost, {line.said()[-5:]}")
-        device.pack(mass)
-        heard += 1
-        wait_until(
-            lambda: (device.take_lines(0.01), len(device.opened()) == heard)[1],
-            f"pack {place} is let out: {line.said()[-5:]}",
-        )
-    need(line.notes()["skip"] == lost, f"{lost} packs were lost: {line.notes()}")
-    return lost + motion
+def check_recorded(program: str, folder: str, packs: int, seed: str) -> None:
+    """A stream with faults is taken down as docs/LINES.md says: `hall-adapter check` and
+    `hall-adapter weights` say the same of it, and only packs that were sent."""
+    os.makedirs(f"{folder}/recorded")
+    total = 0
+    for device in DRAWN:
+        path = f"{folder}/recorded/{device}"
+        sent = record(device, path, packs, random.Random(f"{seed} {device}"))
+        checked = adapter("check", device, path)
+        weights = [line.split()[1] for line in checked if line.startswith("weight ")]
+        with open(path, "rb") as source:
+            handed = subprocess.run(
+                [ADAPTER, "weights", device], stdin=source, capture_output=True, timeout=PATIENCE
+            )
+        need(handed.stdout.decode().split() == weights, f"{device}: {weights[:5]}")
+        texts = [f"{mass // 1000}.{mass % 1000:03}" for mass in sent]
+        need(weights == [text for text in texts if text in weights], f"{device}: {weights[:9]}")
+        need(len(weights) >= packs - packs // 4, f"{device}: {len(weights)} of {packs}")
+        total += len(weights)
+    say(f"recorded: {total} weights of {packs * len(DRAWN)} packs, by check and by weights alike")
 
 
-def cut_device(device: ModbusDevice, cut: Callable[[bool], None], is_cut: bool) -> None:
-    """Cuts the way to a device, or its server where that is TCP."""
-    cut(is_cut)
-    if device.words[0] == "tcp":
-        if is_cut:
-            device.end()
-        else:
-            device.process = device.begin()
-            device.put()
-    elif not is_cut:
-        device.put()
+def record(device: str, path: str, packs: int, draw: random.Random) -> list[int]:
+    """Takes a device's stream down by `cat`, one line in ten spoiled; gives what was sent."""
+    spell, _ = DRAWN[device]
+    way = SerialLine(f"{path}.line")
+    with open(path, "wb") as taken:
+        cat = subprocess.Popen(["cat", way.path], stdout=taken)
+    sent, size = [], 0
+    for counter in range(1, packs + 1):
+        sent.append(260_000 + counter * 100)
+        line = spell(counter, sent[-1])
+        if draw.random() < 0.1:
+            place = draw.randrange(len(line) - 3)
+            line = line[:place] + line[place + 1 :]
+        way.send(line)
+        size += len(line)
+        wait_until(lambda: os.path.getsize(path) == size, "cat takes it down")
+    cat.kill()
+    cat.wait()
+    way.unplug()
+    return sent
+
+
+def adapter(*words: str) -> list[str]:
+    """What hall-adapter says."""
+    ran = subprocess.run([ADAPTER, *words], capture_output=True, text=True, timeout=PATIENCE)
+    need(ran.returncode in (0, 1), f"{words}: {ran.stderr}")
+    return ran.stdout.splitlines()

@@ -9,10 +9,12 @@ import sys
 ADAPTERS = os.path.join(os.path.dirname(os.path.dirname(os.path.abspath(__file__))), "adapters")
 sys.path[:0] = [ADAPTERS, os.path.join(ADAPTERS, "tests")]
 
+from adapter_modbus import check_modbus
+from adapter_reject import check_escaped, check_wrong
 from adapter_room import Room, say
 from adapter_streams import check_streams
 from adapter_watch import check_watched
-from adapter_ways import check_escaped, check_kills, check_modbus, check_times, check_wrong
+from adapter_ways import check_again, check_kills, check_recorded, check_times
 
 
 def streams(program, folder, packs, seed):
@@ -29,6 +31,8 @@ CHECKS = {
     "streams": streams,
     "modbus": check_modbus,
     "kills": check_kills,
+    "again": check_again,
+    "recorded": check_recorded,
     "wrong": check_wrong,
     "escaped": check_escaped,
     "watched": check_watched,

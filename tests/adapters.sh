@@ -13,7 +13,7 @@
 #        HALL names the program
 # needs: root, and of Debian: python3-pymodbus python3-serial python3-serial-asyncio
 #        python3-paho-mqtt mosquitto prometheus iproute2 util-linux; what is missing is installed.
-#        Done in 3 minutes, at most 20; in a network of its own.
+#        Done in 3 minutes, at most 40; in a network of its own.
 set -eu
 cd "$(dirname "$0")/.."
 . tests/need.sh
@@ -27,6 +27,6 @@ room=$(mktemp -d)
 trap 'rm -rf "$room"' EXIT
 chmod 755 "$room"
 unshare --net --pid --fork --kill-child --mount-proc sh -c '
-    ip link set lo up && exec timeout 1200 /usr/bin/python3 -B tests/adapters.py "$@"' \
+    ip link set lo up && exec timeout 2400 /usr/bin/python3 -B tests/adapters.py "$@"' \
     adapters "$hall" "$room" "$packs" "$seed" ||
     { echo "adapters: seed $seed" >&2; exit 1; }

@@ -69,7 +69,7 @@ def held(device):
     return int.from_bytes(fcntl.ioctl(device, termios.FIONREAD, bytes(4)), sys.byteorder)
 
 
-def wait_until(there, seconds=20):
+def wait_until(there, seconds=60):
     """Waits until something holds; it has to in so many seconds."""
     until = time.monotonic() + seconds
     while not there():
@@ -94,7 +94,7 @@ def weigh(table, unit, lines, end, piece):
     wait_until(lambda: not held(device))
     os.close(device)
     os.close(scale)
-    told, counts = script.communicate(timeout=20)
+    told, counts = script.communicate(timeout=60)
     need(script.returncode == 0, f"{table}: status {script.returncode}, {counts}")
     return told, counts.decode().splitlines()[-1]
 
@@ -124,12 +124,18 @@ def check_gate(room):
         open(notes, "w").close()
         command = f'echo "$PACK" >>{notes}; [ "$PACK" != 7 ] || exit 5'
         ran = subprocess.run([f"{SCALES}/gate.sh", "sh", "-c", command], input=said,
-                             capture_output=True, timeout=20)
+                             capture_output=True, timeout=60)
         with open(notes, encoding="ascii") as noted:
             need(noted.read() == calls, f"{said}: called otherwise than {calls!r}")
         need(ran.returncode == status, f"{said}: status {ran.returncode}")
         need(complaint in ran.stderr.decode(), f"{said}: {ran.stderr}")
     print("scales: `open N` calls its command, and nothing else does")
+
+
+def read_words(path):
+    """The words of a file."""
+    with open(path, encoding="ascii") as source:
+        return source.read().split()
 
 
 def check_lane(program, room):
@@ -143,13 +149,17 @@ def check_lane(program, room):
     lane = subprocess.Popen([f"{SCALES}/lane.sh", device, "sics", f"{room}/cell-1.txt"],
                             start_new_session=True, stderr=subprocess.DEVNULL)
     try:
-        for weights in ((b"262.000", b"230.000"), (b"261.500",)):
+        for weights, opened in (((b"262.000", b"230.000"), 1), ((b"261.500",), 2)):
             scale, line = open_scale()
+            # what it holds before it is read is dropped; once it holds nothing it is read
+            os.write(scale, b"S S     111.000 g\r\n")
+            wait_until(lambda: held(line))
             os.symlink(os.ttyname(line), device)
-            time.sleep(2.5)
+            wait_until(lambda: not held(line))
             for weight in weights:
                 os.write(scale, b"S D     100.000 g\r\nS S     " + weight + b" g\r\n")
-            time.sleep(1)
+            wait_until(lambda: os.path.exists(notes) and len(read_words(notes)) == opened)
+            wait_until(lambda: not held(line))
             os.remove(device)
             os.close(line)
             os.close(scale)
@@ -157,11 +167,10 @@ def check_lane(program, room):
     finally:
         for process in (lane, gate):
             os.killpg(process.pid, 15)
-            process.wait(10)
-    need(hall.wait(20) == 0, "the hall ends behind its lane")
+            process.wait(60)
+    need(hall.wait(60) == 0, "the hall ends behind its lane")
     need("lane 1 opened 2 done" in hall.said(), f"the lane said {hall.said()}")
-    with open(notes, encoding="ascii") as noted:
-        need(noted.read().split() == ["6", "8"], "the gate opened for packs 6 and 8")
+    need(read_words(notes) == ["6", "8"], "the gate opened for packs 6 and 8")
     print("scales: a lane was fed by a scale that was away between two packs")
 
 

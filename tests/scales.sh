@@ -4,10 +4,10 @@
 # scale feeds. tests/adapters.sh has the checkweighers.
 #
 # usage: tests/scales.sh      HALL names the program
-# needs: Python 3.11. Done in 20 seconds, at most 2 minutes.
+# needs: Python 3.11. Done in 20 seconds, at most 10 minutes.
 set -eu
 cd "$(dirname "$0")/.."
 if [ -z "${HALL:-}" ]; then tools/build; fi
 room=$(mktemp -d)
 trap 'rm -rf "$room"' EXIT
-timeout 120 python3 tests/scales.py "${HALL:-crates/hall_cli/out/hall_cli}" "$room"
+timeout 600 python3 tests/scales.py "${HALL:-crates/hall_cli/out/hall_cli}" "$room"

@@ -13,7 +13,6 @@ usage: hall-adapter COMMAND ..
 import argparse
 import sys
 
-from hall_adapter import check, line, record, watch, weights
 from hall_adapter.devices import UNITS, BadTable, load, names
 
 
@@ -50,19 +49,29 @@ def parser() -> argparse.ArgumentParser:
 
 
 def run(given: argparse.Namespace) -> int:
-    """Runs a command."""
+    """Runs a command. What it needs is loaded for it alone, so that a filter starts at once."""
     match given.command:
         case "devices":
             return devices()
         case "weights":
+            from hall_adapter import weights
+
             return weights.run(given.device, given.unit)
         case "check":
+            from hall_adapter import check
+
             return check.run(given.map, given.file)
         case "record":
+            from hall_adapter import record
+
             return record.run(given.map)
         case "metrics":
+            from hall_adapter import watch
+
             return watch.run(given.settings)
         case _:
+            from hall_adapter import line
+
             return line.run(given.settings)
 
 

@@ -6,9 +6,10 @@ A table has `name`, `follows` (which published form it follows), `unit`, and
     [[line]]   pattern (a regular expression for a whole line), means
     [counter]  first, last: what the device's counter begins with, and its greatest value
 
-A pattern may have the groups sign, weight, unit, state, counter and article. `means` is `weight`,
-or one of motion, invalid, overload, underload, word; absent, the group `state` is looked up in the
-line's table `states`, whose values are these words. The first pattern that fits decides.
+A pattern is a text, or a list of its pieces. It may have the groups sign, weight, unit, state,
+counter and article. `means` is `weight`, or one of motion, invalid, overload, underload, word;
+absent, the group `state` is looked up in the line's table `states`, whose values are these words.
+The first pattern that fits decides.
 """
 
 import os
@@ -108,10 +109,16 @@ def frame_of(table: dict[str, Any]) -> Frame:
     return Frame(begin, end, check == "xor", number_of(table, "longest", LONGEST_LINE))
 
 
+def is_texts(pieces: Any) -> bool:
+    """Whether this is a list of texts."""
+    return isinstance(pieces, list) and all(isinstance(piece, str) for piece in pieces)
+
+
 def form_of(table: dict[str, Any]) -> Form:
     """A form of a line."""
     only(table, {"pattern", "means", "states"}, "[[line]]")
-    text = text_of(table, "pattern")
+    pieces = table.get("pattern")
+    text = "".join(pieces or []) if is_texts(pieces) else text_of(table, "pattern")
     try:
         pattern = re.compile(text.encode("ascii"))
     except (re.error, UnicodeError) as error:

@@ -7,7 +7,9 @@ acknowledgement without one says that the pack was rejected. So no gate opens fo
 
 A hall numbers weights from 1. On a new connection the hall may be a new one, so the weight that is
 out has the number 1 there: a new hall takes it, and one that goes on says how many it has taken.
-Where that was one the number 2 comes first, which a new hall passes over in silence.
+Where that is one, the number 2 is said before the number 1: a hall that goes on takes it, and a new
+one passes it over. Where this began anew beside a hall that goes on, it hears how many weights that
+has taken.
 
 A weight that waits for longer than the pack takes to the gate isn't sent: the gate stayed shut, the
 pack was turned aside, and that is reported. An opening that comes too late isn't carried out. Where
@@ -19,10 +21,6 @@ from collections import deque
 from dataclasses import dataclass
 
 from hall_adapter.readings import Note, Reading, spell
-
-
-# A hall that is silent for so many seconds passes a number over.
-SILENCE = 2.0
 
 
 @dataclass
@@ -86,9 +84,8 @@ class Lane:
         # how many weights the hall has taken, and whether it is known to be the same hall
         self.taken = 0
         self.is_in_step = False
-        # the numbers under which the weight that is out was said, and when it was said last
+        # the numbers under which the weight that is out was said
         self.said: set[int] = set()
-        self.said_at = 0.0
         self.packs = 0
         self.is_linked = False
         self.is_stopped = False
@@ -110,7 +107,7 @@ class Lane:
         actions = self.drop_late(now)
         if self.is_linked and self.out is None and self.waiting:
             self.out, self.said = self.waiting.popleft(), set()
-            actions.append(self.line(self.number(), now))
+            actions.append(self.lines())
         return actions
 
     def drop_late(self, now: float) -> list[Action]:
@@ -125,34 +122,27 @@ class Lane:
             actions += [Note("unheard", f"{text} within {self.within} s"), Drop(pack)]
         return actions
 
-    def number(self) -> int:
-        """The number under which the weight that is out is said next."""
+    def lines(self) -> Send:
+        """The lines of the weight that is out: one, where its number is known."""
         if self.is_in_step or self.taken == 0:
-            return self.taken + 1
-        return 2 if self.taken == 1 else 1
+            return self.line(self.taken + 1)
+        first = self.line(2).line if self.taken == 1 else b""
+        return Send(first + self.line(1).line)
 
-    def line(self, number: int, now: float) -> Send:
-        """The line of the weight that is out."""
+    def line(self, number: int) -> Send:
+        """The line of the weight that is out, under a number."""
         assert self.out is not None
         self.said.add(number)
-        self.said_at = now
         return Send(f"{number} {spell(self.out.reading.mass)}\n".encode())
 
     def linked(self, now: float) -> list[Action]:
         """There is a new connection: the weight that is out is said again."""
         self.is_linked, self.is_in_step = True, False
-        return [self.line(self.number(), now)] if self.out else self.send(now)
+        return [self.lines()] if self.out else self.send(now)
 
     def unlinked(self) -> None:
         """The connection is gone; the hall may still be there."""
         self.is_linked = False
-
-    def tick(self, now: float) -> list[Action]:
-        """Time has gone on: weights go stale, and silence may mean a new hall."""
-        is_silent = self.is_linked and self.out and now - self.said_at > SILENCE
-        if is_silent and not self.is_in_step and self.taken == 1:
-            return [self.line(1, now)]
-        return self.send(now)
 
     def hall_gone(self) -> list[Action]:
         """The hall is gone: the next one counts from 1. A weight that is out is weighed by it."""
@@ -198,9 +188,13 @@ class Lane:
             return self.settle(number, now)
         if number == self.taken:
             was_in_step, self.is_in_step = self.is_in_step, True
-            return [] if was_in_step else [self.line(number + 1, now)]
+            return [] if was_in_step else [self.line(number + 1)]
         if number < self.taken:
             return []
+        if self.taken == 0 and not self.is_in_step:
+            # this began anew, and the hall goes on
+            self.taken, self.is_in_step, self.said = number, True, set()
+            return [self.line(number + 1)]
         return [
             Note("ahead", f"the hall has taken {number} weights, and {self.taken} were its own")
         ]
@@ -213,6 +207,9 @@ class Lane:
         actions: list[Action] = []
         if is_new_hall:
             actions += self.hall_gone_by(None)
+        if self.taken == 0 and pack.number == 1 and pack.row is None and not pack.let_out:
+            text = "pack 1 is rejected, unless the hall had one weight before this began"
+            actions.append(Note("unsure", text))
         self.out, self.newest = None, pack
         self.taken, self.is_in_step = number, True
         actions.append(Settle(pack, pack.row is not None))

@@ -299,7 +299,7 @@ class Line:
         while True:
             await asyncio.sleep(TICK)
             now = time.monotonic()
-            self.act(self.lane.tick(now))
+            self.act(self.lane.send(now))
             for note in self.watch.tick(now) if self.watch else []:
                 self.report(note)
 

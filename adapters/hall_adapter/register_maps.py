@@ -2,18 +2,19 @@
 
     [modbus]  tcp = "HOST:PORT", or serial = "/dev/ttyUSB0" with baud, parity and stop;
               unit (the device's address, 1), table ("input" or "holding"), period (0.005 s)
-    [weight]  register, type (int16, uint16, int32, uint32 or float32), order ("big": the high word
-              first, or "little"), unit ("g"), scale (0.1: how much of the unit a step is)
+    [weight]  register, type (int16, uint16, int32, uint32 or float32), order ("big": the high
+              word first, or "little"), unit ("g"), scale (0.1: how much of the unit a step is)
     [strobe]  register: a number of 16 bits that rises by one with each pack, from first (0) to
               last (65535), once the weight is in its registers
-    [state]   register, values: what they mean, as `"0" = "weight"`, `"3" = "invalid"`; may be absent
+    [state]   register, values: what they mean, as `0 = "weight"`, `3 = "invalid"`; may be absent
     [gate]    coil: set for pulse (0.05 s) to let a pack out; may be absent
     [reject]  register: a number of 16 bits that counts the packs that were turned aside; may be
               absent
     [filler]  register: a holding register for advice, in hundredths of a gram, a number of 16 bits
               with a sign; may be absent
 
-All registers but the filler's are of one table and at most 100 apart, so that one request reads them at one moment.
+All registers but the filler's are of one table and at most 100 apart, so that one request reads
+them at one moment.
 Nothing here reads or writes.
 """
 
@@ -232,7 +233,9 @@ class Registers:
             return []
         if strobe == self.map.limits.first and strobe != counter.after(before):
             counter.begin(strobe)
-            return self.engine.note(Note("anew", f"the strobe began anew after {before}: not weighed"))
+            return self.engine.note(
+                Note("anew", f"the strobe began anew after {before}: not weighed")
+            )
         if was_away:
             counter.begin(strobe)
             count = counter.between(before, strobe)

@@ -23,8 +23,8 @@
     [reject]                         # may be absent
     earliest = 0.2                   # seconds from a weight until it is behind the reject
     latest = 0.4
-    pulses = ["gpiomon", ..]         # a command that says a line for each pack there; with `map` its
-                                     #   register, and this is absent
+    pulses = ["gpiomon", ..]         # a command that says a line for each pack there; with `map`
+                                     #   its register, and this is absent
     stops = true                     # whether a fault stops the gate
 
     [filler]                         # may be absent

@@ -76,7 +76,7 @@ class Counters(unittest.TestCase):
 
     def test_drawn_losses_and_repeats(self) -> None:
         draw = random.Random(74)
-        for _ in range(200):
+        for _ in range(50):
             sent: list[tuple[int, int]] = []
             lost = 0
             first = last = draw.randrange(1, 1000)

@@ -67,7 +67,7 @@ class Lanes(unittest.TestCase):
         self.weigh(262_000, 0, "send 1 262.000")
         self.lane.unlinked()
         self.said(self.lane.linked(0.1), "send 1 262.000")
-        self.said(self.lane.acknowledged(1, 0.1), "settle 1 reject")
+        self.said(self.lane.acknowledged(1, 0.1), "unsure", "settle 1 reject")
 
     def two_taken(self) -> None:
         self.lane.linked(0)
@@ -102,21 +102,22 @@ class Lanes(unittest.TestCase):
             self.lane = Lane(within=0.5)
             self.lane.linked(0)
             self.weigh(262_000, 0, "send 1 262.000")
+            self.lane.opened(8, 0)
             self.lane.acknowledged(1, 0)
             self.weigh(263_000, 0, "send 2 263.000")
             self.lane.unlinked()
-            self.said(self.lane.linked(0.1), "send 2 263.000")
+            self.said(self.lane.linked(0.1), "send 2 263.000\n1 263.000")
             if is_new:
-                self.said(self.lane.tick(1))
-                self.said(self.lane.tick(2.2), "send 1 263.000")
-                self.said(self.lane.acknowledged(1, 2.3), "settle 2 reject")
+                self.said(self.lane.acknowledged(1, 0.2), "voided", "settle 2 reject")
             else:
                 self.said(self.lane.acknowledged(2, 0.2), "settle 2 reject")
+                self.said(self.lane.acknowledged(2, 0.2))
+            self.weigh(264_000, 0.2, f"send {2 if is_new else 3} 264.000")
 
     def test_a_hall_that_ends_before_it_opened(self) -> None:
         self.lane.linked(0)
         self.weigh(262_000, 0, "send 1 262.000")
-        self.said(self.lane.acknowledged(1, 0.0), "settle 1 reject")
+        self.said(self.lane.acknowledged(1, 0.0), "unsure", "settle 1 reject")
         self.weigh(263_000, 0.1, "send 2 263.000")
         self.said(self.lane.hall_gone())
         self.said(self.lane.linked(0.3), "send 1 263.000")
@@ -154,9 +155,16 @@ class Lanes(unittest.TestCase):
         self.lane.stop()
         self.said(self.lane.opened(8, 0.1), "shut", "void 8")
 
-    def test_a_hall_that_is_ahead(self) -> None:
+    def test_a_line_that_begins_anew_beside_a_hall(self) -> None:
         self.lane.linked(0)
         self.weigh(262_000, 0, "send 1 262.000")
+        self.said(self.lane.acknowledged(7, 0.1), "send 8 262.000")
+        self.said(self.lane.opened(20, 0.1), "open 20")
+        self.said(self.lane.acknowledged(8, 0.1), "settle 1 pass")
+
+    def test_a_hall_that_another_speaks_to(self) -> None:
+        self.two_taken()
+        self.lane.linked(0.1)
         self.said(self.lane.acknowledged(7, 0.1), "ahead")
 
 

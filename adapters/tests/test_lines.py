@@ -131,7 +131,7 @@ class Lines(unittest.TestCase):
         whole = line(1, 251_300)
         table = load("garvens")
         for place in range(len(whole)):
-            for value in range(256):
+            for value in (2, 3, 10, 13, 32, 45, 46, 59, *range(48, 58), 255):
                 changed = whole[:place] + bytes([value]) + whole[place + 1 :]
                 engine = Engine(table)
                 told = engine.feed(changed + line(2, 252_400))

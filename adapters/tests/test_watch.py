@@ -1,4 +1,4 @@
-"""Numbers of a hall: texts as docs/FORMATS.md has them, slots spelled by hand, metrics and alarms."""
+"""Numbers of a hall: texts as docs/FORMATS.md has them, slots spelled by hand, metrics, alarms."""
 
 import os
 import tempfile
@@ -38,7 +38,7 @@ readings 40 gross 1.000
 population 40 net 9800.000 nonstandard 2 inadequate 1
 held yes
 """
-SOCKETS = """  sl  local_address rem_address   st tx_queue rx_queue tr tm->when retrnsmt   uid  timeout inode
+SOCKETS = """  sl  local_address rem_address   st tx_queue rx_queue tr tm->when
    0: 0100007F:2117 00000000:0000 0A 00000000:00000000 00:00000000 00000000     0        0 1
    1: 0100007F:2117 0100007F:D2F0 01 00000000:00000000 00:00000000 00000000     0        0 2
    2: 0100007F:D2F0 0100007F:2117 01 00000000:00000000 00:00000000 00000000     0        0 3
