@@ -15,6 +15,8 @@ pub struct PortCell {
 }
 
 impl PortCell {
+    ghost use Rattle.std.specs.Prelude.{◌≡◌};
+
     /// A cell that has failed nowhere yet.
     pub fn new(cell: RemoteCell<TcpDoor<HostRuntime>>, stop: StopFile) -> Self {
         PortCell {
@@ -25,7 +27,9 @@ impl PortCell {
     }
 
     // The next item, or the end where the port takes no more since somebody asks for that.
-    fn next_item(&mut self) -> Result<CellNext, Failed> {
+    fn next_item(&mut self) -> Result<CellNext, Failed>
+        ensures { self.new.faults ≡ self.old.faults }
+    {
         match self.cell.next() {
             Ok(CellNext::Bad { line: _ }) | Err(Failed) if self.stop.is_there() => {
                 Ok(CellNext::End)
