@@ -12,7 +12,7 @@ os.chdir(work)
 HEADER = b"AQHBOOK2".ljust(97, b"\0")
 SLOT, MARK = 96, 8
 DAY = b"day 2025-03-03\n"
-READING = ("check", "report", "list", "export", "ship")
+READING = ("check", "report", "list", "export", "ship", "acts")
 ADDING = ("run", "serve", "import", "follow", "migrate")
 tried = 0
 

@@ -37,6 +37,7 @@ fn reads_alone(command: Command) -> bool {
             | Command::Ship
             | Command::Paper
             | Command::Audit
+            | Command::Acts
     )
 }
 
