@@ -3,12 +3,12 @@ ghost use Rattle.hall_limits.specs.declared.TheConstants.{MAX_LANE};
 
 use crate::doors::open_door;
 use crate::port_cell::PortCell;
+use crate::scale_door::ScaleDoor;
 use crate::unopened::Unopened;
 use command_line::{Command, Wants};
 use hall_limits::MAX_LANE;
 use lane_files::{FileCell, FileGate, FolderLock, ToldCell, file_cell, file_gate, lock_folder};
 use lane_worker::{EitherCell, PairLane};
-use remote_cell::RemoteCell;
 use stop_file::StopFile;
 use tcp_door::Manners;
 
@@ -46,7 +46,7 @@ fn open_cell<'a>(
         return Err(Unopened::NoPort);
     }
     let name = format!(in rt.alloc(); "port {port}")?;
-    let cell = PortCell::new(RemoteCell::new(door), stop);
+    let cell = PortCell::new(ScaleDoor::new(door, *rt, port), stop);
     Ok(EitherCell::Other(ToldCell::new(cell, rt, name)))
 }
 

@@ -12,6 +12,8 @@ mod doors;
 mod input;
 mod lanes;
 mod port_cell;
+mod scale_door;
+mod scale_lines;
 mod unopened;
 mod waiting;
 
@@ -20,5 +22,6 @@ pub use doors::open_doors;
 pub use input::input_kind;
 pub use lanes::{HallLane, find_stop, lock_cells, open_lanes};
 pub use port_cell::PortCell;
+pub use scale_door::ScaleDoor;
 pub use unopened::Unopened;
 pub use waiting::Waiting;

@@ -1,3 +1,4 @@
+use crate::scale_door::ScaleDoor;
 use device_facts::counted_once_more;
 use disk_core::Failed;
 use lane_worker::{Cell, CellNext};
@@ -9,7 +10,7 @@ use tcp_door::TcpDoor;
 /// port takes no more: the last weight is acknowledged by then.
 #[derive(Drop)]
 pub struct PortCell {
-    cell: RemoteCell<TcpDoor<HostRuntime>>,
+    cell: RemoteCell<ScaleDoor<TcpDoor<HostRuntime>, HostRuntime>>,
     stop: StopFile,
     faults: u64,
 }
@@ -17,10 +18,10 @@ pub struct PortCell {
 impl PortCell {
     ghost use Rattle.std.specs.Prelude.{◌≡◌};
 
-    /// A cell that has failed nowhere yet.
-    pub fn new(cell: RemoteCell<TcpDoor<HostRuntime>>, stop: StopFile) -> Self {
+    /// A cell over the port of a scale, which has failed nowhere yet.
+    pub fn new(door: ScaleDoor<TcpDoor<HostRuntime>, HostRuntime>, stop: StopFile) -> Self {
         PortCell {
-            cell,
+            cell: RemoteCell::new(door),
             stop,
             faults: 0,
         }
