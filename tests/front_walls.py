@@ -166,6 +166,11 @@ def check_who(front: Any) -> None:
             reply = at(f"{book}.example", front, name).send("GET", f"/{page}.txt")
             need(reply.body == f"{page} of {book}\n".encode(), f"{page} of {book}: {reply.body!r}")
     expect(at(NAME, front, "anna").send("GET", "/settings.json"), 404, "no settings")
+    with open("/etc/hall/front/settings.json", "w", encoding="ascii") as file:
+        file.write('{"hall":"all"}')
+    for address in (NAME, "old.example"):
+        reply = at(address, front, "anna").send("GET", "/settings.json")
+        need(json.loads(reply.body) == {"hall": "all"}, f"settings {reply.body!r}")
     reply = at("juice.example", front, "carl").send("GET", "/settings.json")
     need(json.loads(reply.body) == {"hall": "juice"}, f"settings {reply.body!r}")
 

@@ -127,7 +127,6 @@ def first_day(debian: Debian, served: Served, blocks: list[str]) -> None:
     need(debian.step(lane).split("\n")[:2] == ["open 6", "open 8"], "the gate opens for 6 and 8")
     said = debian.run("hall-status 2026-12 2>&1")
     need("lane 1" in said and "MORNING" in said, f"hall-status says {said}")
-    debian.run("hall-backup 2026-12 && hall-backup --try-restore 2026-12", 0)
     # the hall of before has ended, and the new one serves
     served.waits_for("anna", address, "/hall/packs/6", "pass passed")
     need("reject inadequate rejected" in served.text("anna", address, "/hall/packs/7"), "pack 7")
@@ -268,6 +267,8 @@ def work(debian: Debian) -> None:
     debian.step(front)
     debian.step(certificate)
     first_day(debian, served, blocks["A first day"])
+    debian.step(blocks["Backup"][0])
+    debian.run("hall check --book /var/backups/hall/2026-12.*.book", 0)
     next_book(debian, served, blocks["A book's life"])
     two_halls(debian, served, blocks["Two halls on one machine"])
     people(debian, served, blocks["People and desks"])
