@@ -4,8 +4,8 @@
 
 import * as office from "./office.js";
 import { addWords, say, time, word } from "./words.js";
-import { allowedOf, limitsOf, planOf } from "./rules.js";
-import { contentsCheck, meanCheck } from "./sample.js";
+import { allowedOf, limitsOf } from "./rules.js";
+import { contentsCheck } from "./sample.js";
 import { count, day, fixed, grams, percent, quantity } from "./numbers.js";
 import { icon, loadStyles, make, notice, shape } from "./page.js";
 import { BatchPage } from "./loader.js";
@@ -13,6 +13,7 @@ import { drawChart } from "./chart.js";
 import { failsOf } from "./forecast.js";
 import { measuredOf } from "./measured.js";
 import { readPaper } from "./answers.js";
+import { samplesMeasured, samplesOfPaper, tareOf, testOf } from "./reference.js";
 import { tareChanges } from "./control.js";
 
 addWords({
@@ -100,41 +101,12 @@ addWords({
 const CHART_WIDE = 694;
 const COLUMNS = 4;
 
-// ---- the samples: of the paper, or as this browser measured them
-
-function contentsOf({ gross, empty }, tare, mode) {
-  if (gross === null) return null;
-  return mode === "destroy" ? gross - empty : gross - tare;
-}
-
-function fromPaper(paper, packs) {
-  const tareOf = new Map(packs.map(({ number, gross, net }) => [number, gross - net]));
-  const byDay = new Map(paper.tares);
-  const tare = (pack) => byDay.get(paper.days.get(pack)) ?? tareOf.get(pack);
-  const part = (list) => list.map((one) => ({ ...one,
-    contents: contentsOf(one, tare(one.pack), paper.mode) }));
-  return { first: part(paper.first), second: part(paper.second), words: paper.words, paper };
-}
-
 async function fromHere(sheet, packs) {
   const sample = await office.sample(sheet.batch);
-  const known = measuredOf(sheet.batch);
-  const tareOf = new Map(packs.map(({ number, gross, net }) => [number, gross - net]));
-  const part = (numbers) => numbers.map((pack) => {
-    const [gross, empty] = known.get(pack) ?? [null, null];
-    return { pack, gross, empty,
-      contents: contentsOf({ gross, empty }, tareOf.get(pack), sheet.mode) };
-  });
-  return { first: part(sample.first), second: part(sample.second), words: [], paper: null };
+  return samplesMeasured(sample, measuredOf(sheet.batch), tareOf(packs), sheet.mode);
 }
 
-// The figures of the reference test; `mean` is nothing where a weight isn't known here.
-function testOf(sheet, samples) {
-  const plan = planOf(sheet.population, sheet.mode ?? "keep");
-  const contents = samples.first.slice(0, plan.means).map((one) => one.contents);
-  const isKnown = contents.length > 0 && !contents.includes(null);
-  return { plan, mean: isKnown ? meanCheck(contents, { ...sheet, k: plan.k }) : null };
-}
+const fromPaper = (paper, packs) => samplesOfPaper(paper, tareOf(packs));
 
 // ---- the five checks
 
