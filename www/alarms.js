@@ -57,7 +57,7 @@ export function isSoonFull(sheet, minutes) {
 // Why a lane of the plan stands, in words; nothing where it runs.
 export function idleWords(state) {
   const [first, ...rest] = state.split(" ");
-  if (!first || first === "running" || first === "works") return "";
+  if (!first || first === "weighing") return "";
   const told = say(`state ${first}`);
   const words = told.startsWith("state ") ? first : told;
   return rest.length ? `${words} (${rest.join(" ")})` : words;

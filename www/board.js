@@ -328,7 +328,7 @@ export async function build(section) {
   await loadStyles("figures.css", "forecast.css", "board.css");
   const spoken = make("p", { className: "unseen", role: "alert" });
   place = { section, strips: make("div", { className: "strips" }), left: make("span"),
-    rows: make("span", { className: "left" }), note: make("span"),
+    rows: make("span", { className: "left" }), note: make("span", { className: "note" }),
     alarms: make("ol", { className: "alarms" }) };
   place.rows.append(place.left);
   place.strips.append(make("p", { className: "none-yet" }, say("loading")));

@@ -143,12 +143,14 @@ function putWork(isAnew = false) {
   if (state.mode) return;
   const sheet = state.sheets.get(state.batch);
   const key = sheet ? keyOf(sheet) : `none ${state.batch}`;
+  place.desk.classList.toggle("has-work", Boolean(sheet));
   if (key === state.shown && !isAnew) return;
   state.shown = key;
   if (!sheet) {
     const text = state.batch && state.rows ? outcomeWords({ found: { refused: 14 } })
       : say("chooseTask");
-    place.work.replaceChildren(make("p", { className: "quiet" }, text));
+    place.work.replaceChildren(make("h1", { className: "unseen" }, say("desk")),
+      make("p", { className: "quiet" }, text));
     return;
   }
   const acts = { told, openAct,
@@ -160,6 +162,7 @@ function putWork(isAnew = false) {
 
 function openAct(name, values = {}) {
   state.mode = `act ${name}`;
+  place.desk.classList.add("has-work");
   const form = makeForm(name, ACTS[name], `act-${name}`, () => {
     office.following(askAll).then(putLists);
     putNames();
@@ -241,13 +244,15 @@ export async function build(section) {
     runsHead: make("h3", {}, say("runs")), closedHead: make("h3", {}, say("closedLately")) };
   place.force = make("details", { className: "in-force" }, make("summary", {}, say("inForce")),
     place.listed);
-  section.append(make("div", { className: "desk" },
+  place.desk = make("div", { className: "desk" });
+  place.desk.append(
     make("div", { className: "left" }, deskChoice("my-desk"), place.day,
       make("h2", {}, say("waits")), place.tasks, place.runsHead, place.runs, place.closedHead,
       place.closed, buildMenu()),
     make("div", { className: "middle" }, place.pending, place.said, place.work),
     make("aside", { className: "told", "aria-label": say("told") }, make("h2", {}, say("told")),
-      place.told, place.force)), place.names);
+      place.told, place.force));
+  section.append(place.desk, place.names);
   onChange(putTold);
   onDesk(putTold);
   putTold();

@@ -95,7 +95,7 @@ const LEAST_COUNTED = 10_000;
 export class Hall {
   constructor() {
     Object.assign(this, { lanes: new Map(), sheets: new Map(), seen: 0, since: 0, apart: 1,
-      blind: 0, oldest: 0, furthest: 0 });
+      blind: 0, oldest: 0, furthest: 0, counted: 0 });
   }
 
   // Asks what is new. Gives back the summary.
@@ -105,6 +105,7 @@ export class Hall {
     atRows(summary.rows);
     if (summary.rows > this.seen) await this.takeRows(summary.rows);
     if (this.apart === 1) await this.takeEarlier();
+    this.counted = this.since ? Date.now() - this.since : 0;
     const long = Date.now() - MINUTE;
     for (const lane of this.lanes.values()) {
       lane.times = lane.times.filter(([moment]) => moment > long);
@@ -192,9 +193,9 @@ export class Hall {
 
   // Packs a minute of a lane, or null as long as they weren't counted for long enough.
   rateOf(lane) {
-    const counted = Math.min(MINUTE, Date.now() - this.since);
-    if (!this.since || counted < LEAST_COUNTED) return null;
-    return lane.times.reduce((sum, [, apart]) => sum + apart, 0) * MINUTE / counted;
+    if (this.counted < LEAST_COUNTED) return null;
+    const seen = lane.times.reduce((sum, [, apart]) => sum + apart, 0);
+    return seen * MINUTE / Math.min(MINUTE, this.counted);
   }
 
   rateOfBatch(batch) {

@@ -27,7 +27,8 @@ const checksOf = ({ fails }) => fails.map(word).join(", ");
 export function forecastWords(forecast, sheet) {
   const why = whyWords(forecast, sheet);
   const fails = () => say("wouldFail", { checks: checksOf(forecast) });
-  if (forecast.fails.includes("average")) why.push(needWords(forecast.average));
+  const isFailing = forecast.kind === "fail" && forecast.fails.includes("average");
+  if (isFailing) why.push(needWords(forecast.average));
   const told = {
     empty: () => ["early", "early", say("noPacks"), ""],
     early: () => ["early", "early", say("tooEarly"),

@@ -135,7 +135,8 @@ function putSignal() {
   if (office.link.at && late > LATE) {
     return draw("offline", "warn", say("OFFLINE"), ["", say("offline", { time: ago(late / 1000) })]);
   }
-  if (!state.batch && state.rows) {
+  if (!state.rows) return undefined;
+  if (!state.batch) {
     return draw("wait", "idle", say("IDLE"), ["", say("idleText")]);
   }
   const silence = (Date.now() - state.since) / 1000;
@@ -240,6 +241,9 @@ function buildStation() {
     part("section", "panel st-last", make("h2", {}, say("lastTen")), place.last, place.void.button),
     part("div", "panel st-progress", place.says, place.progress)),
   place.spoken, place.void.dialog);
+  putHead();
+  draw("wait", "idle", say("WAIT"), ["", say("loading")]);
+  putLast();
 }
 
 export async function build(section) {

@@ -30,8 +30,9 @@ const REASONS = ["torn", "twice", "label", "other"];
 
 // A button, a dialog, and `show`, which puts the pack that `voidable` finds on the button.
 export function voidDialog(voidable) {
-  const button = make("button", { type: "button", className: "second st-void" });
-  const dialog = make("dialog", { "aria-labelledby": "void-title" });
+  const button = make("button", { type: "button", className: "second st-void", disabled: true },
+    icon("void"), say("voidNone"));
+  const dialog = make("dialog");
   let pack;
   button.addEventListener("click", () => {
     pack = voidable();
@@ -83,5 +84,6 @@ function open(dialog, pack) {
     isReady();
   }), deskChoice("void-desk"), make("p", { className: "quiet" }, say("voidKept")), said,
   make("div", { className: "ends" }, back, go));
+  dialog.setAttribute("aria-labelledby", "void-title");
   dialog.showModal();
 }
