@@ -15,9 +15,9 @@ from typing import Any
 from forecast_model import Batch, Goods, Plan, drawn, error_of, figures_of, plan_of
 
 DAY = "2025-03-03"
-# The rows before the first weighing: the day, the product, its tare, the batch, the lane.
-ROWS_BEFORE = 5
-AT_ONCE = 3
+# So many batches are drawn for a book.
+A_BOOK = 20
+AT_ONCE = 2
 PARTS = ("average", "allowance", "inadequate")
 # How the lines of a sheet begin.
 SHEET = tuple(
@@ -32,11 +32,26 @@ class Wrong(Exception):
     """The pages, the program and the model don't say the same."""
 
 
+class Book:
+    """The script of a drawn book, and how many rows it comes to."""
+
+    def __init__(self) -> None:
+        self.script = [f"day {DAY}"]
+        self.rows = 1
+        self.names: list[str] = []
+
+    def add(self, *lines: str) -> int:
+        """Adds lines, each a row but for questions. Gives back the number of the last row."""
+        self.script += lines
+        self.rows += sum(not line.startswith("sheet ") for line in lines)
+        return self.rows
+
+
 @dataclass
 class Case:
-    """A drawn book: its script up to the end of the batch, and the batch as it then is."""
+    """A drawn batch: its name, and the batch as it is when it has ended."""
 
-    script: list[str]
+    name: str
     batch: Batch
     word: int
     mode: str
@@ -52,17 +67,15 @@ def spell(milligrams: int) -> str:
     return f"{milligrams // 1000}.{milligrams % 1000:03}"
 
 
-def draw_goods(draw: random.Random) -> tuple[Goods, str, str]:
-    """The goods, and how a script names them and opens their batch."""
+def draw_goods(draw: random.Random, name: str) -> tuple[Goods, list[str]]:
+    """The goods, and the lines that enter them and open their batch."""
     quantity = draw.choice([25_000, 75_500, 150_000, 250_000, 333_300, 750_000, 1_500_000])
     if draw.random() < 0.6:
-        return Goods(quantity), f"product P {spell(quantity)}", "open B P"
+        product = f"product P{name} {spell(quantity)}"
+        return Goods(quantity), [product, f"open {name} P{name}"]
     density = draw.randrange(500_000, 2_000_001)
-    return (
-        Goods(quantity, density),
-        f"product P {spell(quantity)} ml",
-        f"open B P {spell(density)}",
-    )
+    product = f"product P{name} {spell(quantity)} ml"
+    return Goods(quantity, density), [product, f"open {name} P{name} {spell(density)}"]
 
 
 def draw_nets(draw: random.Random, goods: Goods, count: int) -> list[int]:
@@ -91,31 +104,33 @@ def last_net(draw: random.Random, batch: Batch) -> int:
     return net if batch.goods.kind(net) == "standard" else batch.goods.mass()
 
 
-def draw_case(draw: random.Random, most: int, mode: str = "keep") -> Case:
-    """A book whose batch has ended. Where the tare was corrected at the end all packs passed."""
-    goods, product, opening = draw_goods(draw)
+def draw_case(draw: random.Random, most: int, book: Book, mode: str = "keep") -> Case:
+    """A batch of a book, up to its end. Where the tare was corrected at the end all packs passed."""
+    name = f"B{len(book.names)}"
+    book.names.append(name)
+    goods, (product, opening) = draw_goods(draw, name)
     error = error_of(goods.quantity) * goods.density // 1_000_000
     tare = draw.randrange(0, 20_000)
     shift = 3 * error + draw.randrange(0, 1000) if draw.random() < 0.5 else 0
     batch = Batch(goods, tare)
-    script = [f"day {DAY}", product, f"tare P {DAY} {spell(tare)}", opening, "start 1 B"]
+    book.add(product, f"tare P{name} {DAY} {spell(tare)}", opening, f"start 1 {name}")
     count = draw.choice((draw.randrange(1, 100), draw.randrange(99, most), 40, 80, 120))
     for net in draw_nets(draw, goods, count - 1):
-        batch.weigh(len(script) + 1, net + tare + shift)
-        script.append(f"weigh 1 {spell(net + tare + shift)}")
+        gross = net + tare + shift
+        batch.weigh(book.add(f"weigh 1 {spell(gross)}"), gross)
     after = Batch(goods, tare + shift, dict(batch.packs))
     gross = max(0, last_net(draw, after) + tare + shift)
-    batch.weigh(len(script) + 1, gross)
-    script += [f"weigh 1 {spell(gross)}", "stop 1"]
+    batch.weigh(book.add(f"weigh 1 {spell(gross)}"), gross)
+    book.add("stop 1")
     batch.tare += shift
     if shift:
-        script.append(f"tare P {DAY} {spell(batch.tare)}")
+        book.add(f"tare P{name} {DAY} {spell(batch.tare)}")
     if batch.packs and draw.random() < 0.2:
         gone = draw.choice(sorted(batch.packs))
         del batch.packs[gone]
-        script.append(f"void {gone}")
-    script += ["end B", "sheet B"]
-    return Case(script, batch, draw.randrange(2**64), mode)
+        book.add(f"void {gone}")
+    book.add(f"end {name}", f"sheet {name}")
+    return Case(name, batch, draw.randrange(2**64), mode)
 
 
 def run(program: str, script: list[str], *words: str) -> list[str]:
@@ -131,7 +146,7 @@ def run(program: str, script: list[str], *words: str) -> list[str]:
 
 def sheets_of(said: list[str]) -> list[str]:
     """The sheets that were printed, each up to the line before the next answer."""
-    starts = [at for at, line in enumerate(said) if line.startswith("batch B ")]
+    starts = [at for at, line in enumerate(said) if line.startswith("batch B")]
     sheets = []
     for start in starts:
         end = start
@@ -141,12 +156,10 @@ def sheets_of(said: list[str]) -> list[str]:
     return sheets
 
 
-def verdict_of(said: list[str]) -> list[str]:
-    """The words of the verdict that the closing was told, behind its row."""
+def verdicts_of(said: list[str]) -> list[list[str]]:
+    """The words of the verdicts that the closings were told, behind their rows."""
     told = [line.split() for line in said if line[:1].isdigit()]
-    closings = [words[1:] for words in told if words[1] in ("released", "withheld", "empty")]
-    need(len(closings) == 1, f"no closing among {said[-12:]}")
-    return closings[0]
+    return [words[1:] for words in told if words[1] in ("released", "withheld", "empty")]
 
 
 def need(holds: bool, said: str) -> None:
@@ -157,17 +170,31 @@ def need(holds: bool, said: str) -> None:
 # ---- the forecast
 
 
-def judge(program: str, case: Case) -> tuple[str, list[str]]:
-    """The sheet of the ended batch, and the verdict, with a sample that is above reproach."""
-    script = list(case.script)
-    if case.batch.packs:
-        script.append(f"draw B keep {case.word}")
-        gross = case.batch.goods.mass() + case.batch.tare + 1000
-        picks = drawn(case.word, case.numbers(), case.plan().first)
-        script += [f"measure {pack} {spell(gross)}" for pack in picks]
-    said = run(program, script + ["close B"])
-    need(not any(line.startswith("refused") for line in said), f"refused in {script}: {said}")
-    return sheets_of(said)[0], verdict_of(said)
+@dataclass
+class Judged:
+    """A batch with its sheet when it had ended, and its verdict."""
+
+    case: Case
+    sheet: str
+    verdict: list[str]
+
+
+def judge(program: str, seed: int, batches: int) -> list[Judged]:
+    """A book of so many batches, each closed by a sample that is above reproach."""
+    draw, book, cases = random.Random(seed), Book(), []
+    for _ in range(batches):
+        case = draw_case(draw, 200, book)
+        cases.append(case)
+        if case.batch.packs:
+            book.add(f"draw {case.name} keep {case.word}")
+            gross = case.batch.goods.mass() + case.batch.tare + 1000
+            for pack in drawn(case.word, case.numbers(), case.plan().first):
+                book.add(f"measure {pack} {spell(gross)}")
+        book.add(f"close {case.name}")
+    said = run(program, book.script)
+    need(not any(line.startswith("refused") for line in said), f"refused with seed {seed}")
+    together = zip(cases, sheets_of(said), verdicts_of(said), strict=True)
+    return [Judged(case, sheet, verdict) for case, sheet, verdict in together]
 
 
 def least_each(batch: Batch, count: int) -> int:
@@ -184,13 +211,13 @@ def compare_forecast(case: Case, verdict: list[str], told: Answer) -> None:
     expected = [word for word in verdict[1:] if word in PARTS]
     batch = case.batch
     need(batch.fails() == expected, f"the model says {batch.fails()} of {verdict}")
-    need(told["fails"] == expected, f"the page says {told} of {verdict}: {case.script}")
+    need(told["fails"] == expected, f"the page says {told} of {verdict}: {batch}")
     count, light, _ = batch.counts()
     need(told["short"] == max(0, -(-batch.lack() // 1_000_000)), f"{told} short {batch.lack()}")
     need(told["left"] == 10_000 - count and told["allowed"] == count // 40, f"{told} of {count}")
     mend = next(more for more in range(0, 40 * light + 1) if 40 * light <= count + more)
     need(told["mend"] == mend, f"{told} mends with {mend}")
-    need(told["each"] == least_each(batch, told["next"]), f"{told} for {case.script}")
+    need(told["each"] == least_each(batch, told["next"]), f"{told} for {batch}")
 
 
 # ---- the reference test
@@ -237,29 +264,46 @@ class Paper:
     contents: tuple[list[int], list[int]]
 
 
-def judge_paper(program: str, folder: str, seed: int) -> Paper:
-    draw = random.Random(seed)
-    mode = draw.choice(("keep", "keep", "keep", "destroy"))
-    case = draw_case(draw, 700, mode)
-    while len(case.batch.packs) < (100 if mode == "destroy" else 2):
-        case = draw_case(draw, 700, mode)
+def add_sample(draw: random.Random, book: Book, case: Case) -> tuple[list[int], list[int]]:
+    """Draws, measures and closes a batch. Gives back the contents of both samples."""
     plan, numbers = case.plan(), case.numbers()
     first = drawn(case.word, numbers, plan.first)
     weights = draw_weights(draw, case, first)
-    script = case.script + [f"draw B {mode} {case.word}"] + measured(weights, first)
+    book.add(f"draw {case.name} {case.mode} {case.word}", *measured(weights, first))
     d1 = defects(case, contents_in(case, weights, first))
     second: list[int] = []
     if plan.c1 < d1 < plan.r1:
-        second = drawn(case.word + 1, [n for n in numbers if n not in first], plan.second)
+        second = drawn(case.word // 2, [n for n in numbers if n not in first], plan.second)
         weights |= draw_weights(draw, case, second)
-        script += [f"second B {case.word + 1}"] + measured(weights, second)
-    book = f"{folder}/{seed}.book"
-    said = run(program, script + ["close B", "sheet B"], "--book", book)
-    words = [program, "paper", "--book", book, "--batch", "B"]
-    text = subprocess.run(words, capture_output=True, text=True, check=True).stdout
-    os.remove(book)
-    both = contents_in(case, weights, first), contents_in(case, weights, second)
-    return Paper(text, sheets_of(said)[-1], verdict_of(said), case, both)
+        book.add(f"second {case.name} {case.word // 2}", *measured(weights, second))
+    book.add(f"close {case.name}", f"sheet {case.name}")
+    return contents_in(case, weights, first), contents_in(case, weights, second)
+
+
+def judge_papers(program: str, folder: str, seed: int, batches: int) -> list[Paper]:
+    """The papers of a book of so many batches."""
+    draw, book = random.Random(seed), Book()
+    cases: list[Case] = []
+    contents: list[tuple[list[int], list[int]]] = []
+    while len(cases) < batches:
+        mode = draw.choice(("keep", "keep", "keep", "destroy"))
+        case = draw_case(draw, 700, book, mode)
+        least = 100 if mode == "destroy" else 2
+        if len(case.batch.packs) >= least:
+            cases.append(case)
+            contents.append(add_sample(draw, book, case))
+    path = f"{folder}/{seed}.book"
+    said = run(program, book.script, "--book", path)
+    need(not any(line.startswith("refused") for line in said), f"refused with seed {seed}")
+    sheets = [sheet for sheet in sheets_of(said) if "\nverdict " in sheet]
+    papers = []
+    together = zip(cases, contents, sheets, verdicts_of(said), strict=True)
+    for case, both, sheet, verdict in together:
+        words = [program, "paper", "--book", path, "--batch", case.name]
+        text = subprocess.run(words, capture_output=True, text=True, check=True).stdout
+        papers.append(Paper(text, sheet, verdict, case, both))
+    os.remove(path)
+    return papers
 
 
 def compare_paper(paper: Paper, told: Answer) -> None:
@@ -295,26 +339,36 @@ def count_kinds(verdicts: list[list[str]]) -> str:
     return ", ".join(f"{name} {sum(name in verdict for verdict in verdicts)}" for name in names)
 
 
+def books_of(draw: random.Random, batches: int) -> tuple[list[int], list[int]]:
+    """The seeds of books for so many batches, and how many each has."""
+    counts = [min(A_BOOK, batches - at) for at in range(0, batches, A_BOOK)]
+    return [draw.randrange(2**32) for _ in counts], counts
+
+
 def main() -> None:
     program, room = sys.argv[1:3]
-    books, many, seed = (int(word) for word in sys.argv[3:6])
+    many, papers_wanted, seed = (int(word) for word in sys.argv[3:6])
     draw = random.Random(seed)
-    cases = [draw_case(draw, 200) for _ in range(books)]
-    seeds = [draw.randrange(2**32) for _ in range(many)]
     with ThreadPoolExecutor(AT_ONCE) as pool:
-        judged = list(pool.map(lambda case: judge(program, case), cases))
-        papers = list(pool.map(lambda one: judge_paper(program, room, one), seeds))
-    said = reckon(room, [sheet for sheet, _ in judged], papers)
-    for case, (_, verdict), told in zip(cases, judged, said["sheets"], strict=True):
-        compare_forecast(case, verdict, told)
+        books = pool.map(lambda *one: judge(program, *one), *books_of(draw, many))
+        judged = [one for book in books for one in book]
+        halls = pool.map(
+            lambda *one: judge_papers(program, room, *one), *books_of(draw, papers_wanted)
+        )
+        papers = [paper for book in halls for paper in book]
+    said = reckon(room, [one.sheet for one in judged], papers)
+    for one, told in zip(judged, said["sheets"], strict=True):
+        compare_forecast(one.case, one.verdict, told)
     for paper, told in zip(papers, said["papers"], strict=True):
         compare_paper(paper, told)
-    verdicts = [verdict for _, verdict in judged]
-    at_bound = sum(abs(case.batch.lack()) <= 2_000_000 for case in cases)
-    print(f"forecast: seed {seed}: {books} forecasts are the packers' part of the verdict")
-    print(f"forecast: {count_kinds(verdicts)}; {at_bound} within 2 mg of the average")
+    at_bound = sum(abs(one.case.batch.lack()) <= 2_000_000 for one in judged)
+    print(f"forecast: seed {seed}: {many} forecasts are the packers' part of the verdict")
+    kinds = count_kinds([one.verdict for one in judged])
+    print(f"forecast: {kinds}; {at_bound} within 2 mg of the average")
     open_ones = sum(bool(paper.contents[1]) for paper in papers)
-    print(f"forecast: {many} papers, {open_ones} with a second sample: all figures are the same")
+    print(
+        f"forecast: {papers_wanted} papers, {open_ones} with a second sample: all figures are the same"
+    )
 
 
 if __name__ == "__main__":
