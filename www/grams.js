@@ -18,8 +18,8 @@ export function readAmount(text, unit) {
 
 // The milligrams of a mass that the book printed, which may be negative.
 export function readMass(text) {
-  const parts = /^(-?)(\d+)\.(\d{3})$/.exec(text);
-  const size = Number(parts[2]) * 1000 + Number(parts[3]);
+  const parts = /^(-?)(\d+)(?:\.(\d{1,3}))?$/.exec(text);
+  const size = Number(parts[2]) * 1000 + Number((parts[3] ?? "").padEnd(3, "0"));
   return parts[1] ? -size : size;
 }
 
