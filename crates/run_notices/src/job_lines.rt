@@ -1,7 +1,6 @@
-use batch_reports::refusal_text;
 use command_line::Wants;
 use job_reports::{door_text, lane_text};
-use lane_worker::{LaneEnd, LaneStop};
+use lane_worker::LaneEnd;
 use office_door::DoorEnd;
 use std::fmt;
 
@@ -11,18 +10,13 @@ const WORDS_OF_LANE: usize = 4;
 
 const WORDS_OF_DOOR: usize = 6;
 
-/// Why a lane weighed no more, in the words of its line, with the name of a refusal. It is written
-/// into an empty list; where there is no memory for it, it is empty.
+/// Why a lane weighed no more, in the words of its line. It is written into an empty list; where there
+/// is no memory for it, it is empty.
 pub(crate) fn lane_stop<'a>(end: &LaneEnd, text: &'a mut Vec<u8>) -> &'a str {
-    let is_written = match &end.stop {
-        LaneStop::Refused(refused) => refusal_text(refused, text).is_ok(),
-        _ => lane_text(0, end, text).is_ok(),
-    };
-    let words = match &end.stop {
-        LaneStop::Refused(_) => 0,
-        _ => WORDS_OF_LANE,
-    };
-    if is_written { behind(text, words) } else { "" }
+    match lane_text(0, end, text) {
+        Ok(()) => behind(text, WORDS_OF_LANE),
+        Err(_) => "",
+    }
 }
 
 /// Why a door served no more, in the words of its line. It is written into an empty list.

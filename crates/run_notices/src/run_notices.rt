@@ -3,7 +3,7 @@ use crate::meanings::meaning;
 use batch_reports::refusal_text;
 use book_words::{Act, Entry, Name, Refusal, Refused};
 use command_line::{Command, Wants};
-use lane_worker::LaneEnd;
+use lane_worker::{LaneEnd, LaneStop};
 use office_door::DoorEnd;
 use session_jobs::JobNotices;
 use setup_run::SetupNotices;
@@ -150,6 +150,15 @@ impl<E: Eprint + Drop> JobNotices for RunNotices<E> {
     }
 
     fn lane_ended(&self, lane: u8, batch: Name, end: LaneEnd) {
+        if let LaneStop::Refused(refused) = end.stop {
+            let (number, name) = (refused.refusal.number(), refused.refusal.name());
+            let _ = eprintln!(&self.errors;
+                "hall: lane {lane}, batch {}: refused {number} {name} at {}",
+                batch.as_bytes().escape_ascii(),
+                refused.at
+            );
+            return;
+        }
         let mut text = Vec::new(self.alloc);
         let stop = lane_stop(&end, &mut text);
         let _ = eprintln!(&self.errors;
