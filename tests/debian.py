@@ -9,7 +9,7 @@ import time
 from collections.abc import Callable
 
 # The most seconds to wait for the boot, for a step, and for what comes about in it.
-BOOT, STEP, PATIENCE = 300, 600, 120
+BOOT, STEP, PATIENCE = 300, 1200, 300
 MARK = "--- done ---"
 NSPAWN = ["systemd-nspawn", "--quiet", "--register=no", "--keep-unit", "--private-network"]
 # Without this systemd there can't bound addresses and ports.

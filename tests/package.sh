@@ -6,7 +6,7 @@
 #
 # usage: tests/package.sh        HALL names the program, and PROVE the check of papers
 # needs: root, and of Debian: lintian debootstrap binutils systemd-container mandoc; what is missing
-#        is installed, and debootstrap fetches a small Debian. Done in 5 minutes, at most 30.
+#        is installed, and debootstrap fetches a small Debian. Done in 5 minutes, at most 60.
 set -eu
 cd "$(dirname "$0")/.."
 . tests/need.sh
@@ -48,7 +48,7 @@ done
 echo "package: $(basename "$package"), $(wc -c <"$package") bytes"
 
 # ---- a Debian without the toolchain, with what the commands there fetch
-timeout 900 debootstrap --variant=minbase --include=systemd-sysv,libgcc-s1,curl,python3 bookworm \
+timeout 1200 debootstrap --variant=minbase --include=systemd-sysv,libgcc-s1,curl,python3 bookworm \
     "$debian" >"$room/log" 2>&1 || { tail "$room/log" >&2; fail "no Debian was made"; }
 inside() { chroot "$debian" env -i PATH=/usr/sbin:/usr/bin:/sbin:/bin HOME=/root "$@"; }
 cp /etc/resolv.conf "$debian/etc/resolv.conf"
@@ -65,7 +65,7 @@ git ls-files -z README.md deploy docs examples tools www |
     xargs -0 cp --parents -t "$debian/root/checkout"
 
 # ---- the commands of OPERATING
-timeout 1500 python3 tests/installed.py "$debian"
+timeout 3000 python3 tests/installed.py "$debian"
 
 # ---- USING's first day, with the examples that were installed, says what USING says
 awk '/^\$ / { on = /examples\/first_day.txt/; next } /^```/ { on = 0 } on' docs/USING.md >"$room/said"
