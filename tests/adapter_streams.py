@@ -13,6 +13,8 @@ from clients import need
 from drawn import DRAWN
 
 PERIOD = 0.05
+# Seconds in which a gate may open: a machine that is busy takes long.
+WITHIN = 20.0
 # In a hundred packs so many have a fault.
 FAULTS = 12
 # Packs without a fault behind each fault, so that the counter tells what was lost.
@@ -143,6 +145,13 @@ def reported(notes: Counter[str], sent: Sent) -> int:
     return silent + sent.faults["anew"]
 
 
+def is_accounted(room: Room, line: Line, stream: Stream) -> bool:
+    """Whether the hall has judged what it was sent, and each other pack was reported."""
+    count = len(room.rows(line.lane))
+    missing = len(stream.sent.masses) - count
+    return line.metric("hall_line_waiting") == 0 and missing == reported(line.notes(), stream.sent)
+
+
 def check_rows(room: Room, line: Line, stream: Stream) -> tuple[int, int]:
     """Compares the book with what was sent; gives how many packs there were, and how many lost."""
     sent, name = stream.sent, line.name
@@ -176,7 +185,9 @@ def check_openings(room: Room, line: Line, stream: Stream) -> None:
     if not shut:
         for row, opened in zip(passed, line.opened):
             late = opened - stream.sent.times[row.act["gross"]]
-            need(0 <= late < 5.5, f"{line.name}: row {row.number} was let out after {late} s")
+            need(
+                0 <= late < WITHIN + 1, f"{line.name}: row {row.number} was let out after {late} s"
+            )
 
 
 def read_gates(lines: list[Line]) -> int:
@@ -191,7 +202,7 @@ def check_streams(room: Room, kind: str, packs: int, seed: str) -> tuple[int, in
     room.start()
     lines, streams = [], []
     for lane, device in enumerate(DRAWN, 1):
-        line, way = open_line(room, kind, device, lane)
+        line, way = open_line(room, kind, device, lane, f"within = {WITHIN}\n")
         lines.append(line)
         streams.append(Stream(device, way, line, f"{seed} {kind} {device}", packs))
     for stream in streams:
@@ -199,12 +210,18 @@ def check_streams(room: Room, kind: str, packs: int, seed: str) -> tuple[int, in
     while any(stream.is_alive() for stream in streams):
         read_gates(lines)
         time.sleep(0.002)
+    for line, stream in zip(lines, streams):
+        if stream.fault:
+            raise stream.fault
+        wait_until(
+            lambda: (read_gates(lines), is_accounted(room, line, stream))[1],
+            f"{line.name}: each pack is judged or reported: {line.notes()}, {stream.sent.faults},"
+            f" {line.said()[-20:]}",
+        )
     settled(lambda: (read_gates(lines), os.path.getsize(room.book)), 2.0)
     sent = lost = 0
     faults: Counter[str] = Counter()
     for line, stream in zip(lines, streams):
-        if stream.fault:
-            raise stream.fault
         counts = check_rows(room, line, stream)
         check_openings(room, line, stream)
         sent, lost = sent + counts[0], lost + counts[1]

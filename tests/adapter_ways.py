@@ -144,6 +144,7 @@ def check_kills(program: str, folder: str, packs: int, seed: str) -> None:
         time.sleep(PERIOD)
     if kills.fault:
         raise kills.fault
+    wait_until(lambda: line.metric("hall_line_waiting") == 0, "each pack is judged or reported")
     settled(lambda: (os.path.getsize(room.book), line.metric("hall_line_waiting")), 2.0)
     compare_kills(room, line, sent, log)
     say(

@@ -218,6 +218,10 @@ class Lane:
             actions.append(Note("escaped", text))
         return [*actions, *self.send(now)]
 
+    def unjudged(self) -> int:
+        """How many weights the hall hasn't judged."""
+        return len(self.waiting) + (self.out is not None)
+
     def stop(self) -> None:
         """Stops the gate: it opens no more."""
         self.is_stopped = True

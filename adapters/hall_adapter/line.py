@@ -204,7 +204,7 @@ class Line:
                     self.void(row)
                 case Note():
                     self.report(action)
-        self.metrics.set("hall_line_waiting", len(self.lane.waiting))
+        self.metrics.set("hall_line_waiting", self.lane.unjudged())
 
     def open(self, pack: Pack) -> None:
         """Lets a pack out."""

@@ -16,7 +16,7 @@ FAMILIES = {
     "hall_line_stopped": ("gauge", "Whether the line's gate is stopped."),
     "hall_line_device_linked": ("gauge", "Whether the weighing device is reached."),
     "hall_line_hall_linked": ("gauge", "Whether the lane's port is reached."),
-    "hall_line_waiting": ("gauge", "Weights that wait for the hall."),
+    "hall_line_waiting": ("gauge", "Weights that the hall hasn't judged."),
     "hall_line_mean_off_grams": ("gauge", "The newest advice to the filler."),
     "hall_line_last_pack_seconds": ("gauge", "When the newest pack was weighed, by the clock."),
     "hall_line_answer_seconds": ("summary", "From a weight to the hall's judgement."),
