@@ -97,7 +97,7 @@ ACTS_EMPTIED = f"""\
 
 # Runs, and what their book is as text.
 BOOK_TEXTS = [
-    ([], [Step(["acts"], b"x", "", 0, 0)]),
+    ([], [Step(["acts"], b"x", "disk fault\n", 6)]),
     ([IN_FORCE], [Step(["acts"], b"", ACTS_IN_FORCE)]),
     ([FIVE_ROWS, THREE_PACKS], [
         Step(["acts", "--after=5"], b"", ACTS_OF_TEN), Step(["acts", "--after", "10"], b"", ""),
