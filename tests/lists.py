@@ -62,7 +62,7 @@ def without(place: Any, item: str, text: str) -> str:
         if "ITEM" in place.found:
             return WORD
         if item in map(lists.same, lists.items_of(place, match)):
-            return re.sub(re.escape(item.split()[-1]), WORD, match[0], flags=re.I)
+            return re.sub("[ _]?".join(map(re.escape, item.split()[-1])), WORD, match[0], flags=re.I)
         return match[0]
 
     found = place.found.replace("ITEM", lists.searched(item))

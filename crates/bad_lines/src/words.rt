@@ -53,21 +53,22 @@ const OF_SERVE: &[(&str, Value)] = &[
 
 const OF_AUDIT: &[(&str, Value)] = &[BOOK, ("rows", Value::Number(0, 1_000_000))];
 
-const OF_SHIP: &[(&str, Value)] = &[BOOK, ("after", Value::Number(0, 1_000_000))];
+const OF_ROWS_AFTER: &[(&str, Value)] = &[BOOK, ("after", Value::Number(0, 1_000_000))];
 
 // The commands, and what stands behind each.
-const USAGES: [(&str, &[(&str, Value)]); 14] = [
+const USAGES: [(&str, &[(&str, Value)]); 15] = [
     ("run", OF_RUN),
     ("serve", OF_SERVE),
     ("import", &[BOOK, LIMIT]),
     ("report", &[BOOK, BATCH]),
     ("export", &[BOOK]),
+    ("acts", OF_ROWS_AFTER),
     ("list", &[BOOK, LIMIT]),
     ("check", &[BOOK]),
     ("audit", OF_AUDIT),
     ("paper", &[BOOK, BATCH]),
     ("prove", &[]),
-    ("ship", OF_SHIP),
+    ("ship", OF_ROWS_AFTER),
     ("follow", &[BOOK]),
     ("migrate", &[BOOK]),
     ("trial", &[]),
