@@ -11,7 +11,7 @@ import time
 
 import rows
 from clients import (Client, Desk, FIRST_DESK, FIRST_DOOR, Gone, Hall, Lane, Link, OPENING,
-                     drawn_act, free_ports, good_gross, need, plan)
+                     PATIENCE, drawn_act, free_ports, good_gross, need, plan)
 from there import Helper
 
 HERE = os.path.dirname(os.path.abspath(__file__))
@@ -174,6 +174,7 @@ class Round:
                  for at, desk in enumerate(self.desks)]
         for client in lanes + desks:
             client.start()
+        self.wait_for_copy()
         time.sleep(self.draw.uniform(SHORTEST, LONGEST))
         # the machine burns: its cable is cut, and all that ran there ends
         run("ip", "-n", self.first.name, "link", "set", self.first.end, "down")
@@ -186,6 +187,13 @@ class Round:
         for client in lanes + desks:
             client.finish()
         return self.take_over(lanes)
+
+    def wait_for_copy(self):
+        """Waits until the copy is begun, on a machine however busy."""
+        until = time.monotonic() + PATIENCE
+        while not os.path.exists(self.copy):
+            need(time.monotonic() < until, "no copy is begun")
+            time.sleep(0.05)
 
     def take_over(self, lanes):
         burnt, copied = rows_of(self.program, self.book), rows_of(self.program, self.copy)
