@@ -3,7 +3,7 @@
 _hall() {
     local word=${COMP_WORDS[COMP_CWORD]} before=${COMP_WORDS[COMP_CWORD - 1]}
     local commands="run serve report export check import trial migrate ship follow paper prove"
-    commands="$commands list audit"
+    commands="$commands list audit acts"
     local options
     COMPREPLY=()
     if [ "$COMP_CWORD" -eq 1 ]; then
@@ -22,7 +22,7 @@ _hall() {
         report | paper) options="--book --batch" ;;
         export | check | migrate | follow) options="--book" ;;
         audit) options="--book --rows" ;;
-        ship) options="--book --after" ;;
+        ship | acts) options="--book --after" ;;
         import | list) options="--book --limit" ;;
         *) return ;;
     esac

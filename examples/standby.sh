@@ -23,10 +23,16 @@ rows_said() {
     sed -n 's/^rows \([0-9]*\) whole$/\1/p'
 }
 
+# How many rows the copy has; where there is none yet it begins empty.
+rows_of_copy() {
+    "$@" "$hall" check --book "$copy" < /dev/null 2> /dev/null | rows_said | grep . ||
+        "$@" "$hall" run --book "$copy" < /dev/null | sed -n 's/^rows \([0-9]*\)$/\1/p'
+}
+
 rows=
 while [ "$times" -ne 0 ]; do
     # The copy is asked at the start, and again where a shipment didn't arrive.
-    [ -n "$rows" ] || rows=$("$@" "$hall" check --book "$copy" < /dev/null | rows_said)
+    [ -n "$rows" ] || rows=$(rows_of_copy "$@")
     if [ -z "$rows" ]; then
         echo "the copy doesn't answer"
     elif ! "$hall" ship --book "$book" --after "$rows" > "$shipment" 2> /dev/null; then

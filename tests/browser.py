@@ -133,11 +133,11 @@ class Browser:
     def act(self, kind, twice=False, **values):
         """Fills the form of an act and enters it; says what is told."""
         form = f"#act-{kind}"
-        wait_until(lambda: self.run("return document.querySelector(arguments[0])", form),
-                   f"the form {form}")
-        if not self.run("return document.querySelector(arguments[0]).parentElement.open", form):
-            self.run("for (const one of document.querySelectorAll('details')) one.open = false")
-            self.driver.find_element(By.XPATH, f"//form[@id='act-{kind}']/../summary").click()
+        self.find("#find-act")
+        if not self.run("return document.querySelector(arguments[0])", form):
+            self.fill("#find-act", kind)
+            self.find("#find-act").send_keys(Keys.ENTER)
+            self.fill("#find-act", "")
         for field, value in values.items():
             self.fill(f"{form} [name={field}]", value)
         self.run("document.querySelector(arguments[0]).textContent = ''", f"{form} output")
@@ -178,7 +178,7 @@ class Browser:
 
     def complaints(self):
         """What the browser holds against the page, apart from answers that didn't come."""
-        expected = ("status of 4", "status of 5", "net::ERR", "chrome://")
+        expected = ("status of 4", "status of 5", "net::ERR", "chrome://", "AudioContext")
         return [entry["message"] for entry in self.driver.get_log("browser")
                 if not any(part in entry["message"] for part in expected)]
 

@@ -12,7 +12,7 @@ os.chdir(work)
 HEADER = b"AQHBOOK2".ljust(97, b"\0")
 SLOT, MARK = 96, 8
 DAY = b"day 2025-03-03\n"
-READING = ("check", "report", "list", "export", "ship")
+READING = ("check", "report", "list", "export", "ship", "acts")
 ADDING = ("run", "serve", "import", "follow", "migrate")
 tried = 0
 
@@ -53,11 +53,11 @@ for foreign in (b"a note\n", b"AQX", bytes(20) + b"1", HEADER[:60] + b"1", b"1" 
              f"{command} of {foreign[:9]} ends {status}: {said} {errors}")
         need(content("foreign") == foreign, f"{command} changed {foreign[:9]}")
 
-# What adds nothing makes no file, and tells so.
+# What adds nothing makes no file, and ends as where a file can't be opened.
 for command in READING:
     said, status, errors = ask(command, "absent")
-    need((status, errors) == (0, "hall: absent: there is no book\n"),
-         f"{command}: {status} {errors}")
+    need((said, status, errors) == (b"disk fault\n", 6, "hall: can't open absent: No such file or"
+                                    " directory (os error 2)\n"), f"{command}: {status} {errors}")
     need(not os.path.exists("absent"), f"{command} made a file")
 
 # A link that leads nowhere.

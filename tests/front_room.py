@@ -42,9 +42,20 @@ def wait_until(holds, said, seconds=20):
 
 
 def mount_room():
-    """Mounts of this room alone, over the folders that the configuration names."""
+    """Mounts of this room alone, over the folders that the configuration names.
+
+    What lies in /etc and /usr/share is laid over first: a mount on a folder of the machine itself
+    goes when anyone removes that folder, as another room may.
+    """
     run("mount", "--make-rprivate", "/")
-    for folder in ("/etc/hall", "/usr/share/hall", "/run", "/var/log/nginx"):
+    run("mount", "-t", "tmpfs", "-o", "mode=755", "tmpfs", "/run")
+    for folder in ("/etc", "/usr/share"):
+        parts = [f"/run/room{folder}/{part}" for part in ("upper", "work")]
+        for part in parts:
+            os.makedirs(part)
+        run("mount", "-t", "overlay", "-o",
+            f"lowerdir={folder},upperdir={parts[0]},workdir={parts[1]}", "overlay", folder)
+    for folder in ("/etc/hall", "/usr/share/hall", "/var/log/nginx"):
         os.makedirs(folder, exist_ok=True)
         run("mount", "-t", "tmpfs", "-o", "mode=755", "tmpfs", folder)
     run("mount", "--bind", f"{TOP}/deploy/nginx.conf", "/etc/nginx/nginx.conf")

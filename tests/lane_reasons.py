@@ -34,6 +34,7 @@ NO_WEIGHTS = [
     (b"0" * 64 + b"1", "0" * 64, "more than 64 bytes"),
     (b"2 2\r", "2 2\\x0d", "a blank"),
 ]
+SERVING = "serving, lanes 1, doors 0, rows 4, left 999996"
 TWENTY = [f"CELL: bad line {line}, x: a character that no weight has" for line in range(1, 21)]
 
 # what the cell has or is, what the gate is, how often a script works the lane, how each work ends,
@@ -106,7 +107,8 @@ def weigh_at_once(program, folder):
     lay(f"{folder}/cell-1.txt", b"262\n262 g\n")
     hall = begin(program, ["serve"], folder)
     return (end(hall, PLAN, folder),
-            (["1 bad 2"], 10, ["CELL: bad line 2, 262 g: a unit"]))
+            (["1 bad 2"], 10, [SERVING, "CELL: bad line 2, 262 g: a unit",
+                               "lane 1, batch A: bad 2"]))
 
 
 def miss_folder(program, folder):
@@ -114,7 +116,8 @@ def miss_folder(program, folder):
     missing = f"{folder}/missing"
     hall = begin(program, ["serve"], missing)
     return (end(hall, PLAN, missing),
-            (["0 cell"], 10, ["can't open CELL: No such file or directory (os error 2)"]))
+            (["0 cell"], 10, [SERVING, "can't open CELL: No such file or directory (os error 2)",
+                              "lane 1, batch A: cell"]))
 
 
 def close_gate(program, folder):

@@ -105,7 +105,7 @@ def is_missed(room: str, each: Any, place: Any, item: str) -> bool:
     said = [*lists.differences(room, each.what, place, wanted)]
     for name, before in held.items():
         write(name, before)
-    return f"{place.path}: no {each.what} {item}" in said
+    return f"{lists.where(place)}: no {each.what} {item}" in said
 
 
 def one_more(place: Any, text: str) -> str:

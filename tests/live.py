@@ -17,7 +17,7 @@ from clients import (FIRST_DESK, FIRST_DOOR, OPENING, Client, Desk, Gone, Hall, 
 from rows import SLOT, slots_behind
 
 LANES, DESKS = 2, 2
-COMMANDS = ("check", "export", "report", "ship")
+COMMANDS = ("check", "export", "report", "ship", "acts")
 # Beside a disk that fails: no pack is weighed there, and a row that is another shows in a shipment.
 COMMANDS_BESIDE_FAILURES = ("check", "export", "report", "ship", "ship", "ship", "ship", "ship")
 IN_USE = re.compile(r"^hall: .*: it is in use; (\d+) rows were read$")

@@ -31,6 +31,22 @@ ROWS = [
      "bad line 1, \\xef\\xbb\\xbfday 2025-03-03: a byte order mark: save the text without it"),
     (["run"], b"\n" + LONG, "bad line 2",
      "bad line 2, " + "#" * 200 + ": more than 200 bytes"),
+    (["run"], b"day 2025-02-30\n", "bad line 1",
+     "bad line 1, day 2025-02-30: no such day: 2025-02-30"),
+    (["run"], b"weigh 1 -5\n", "bad line 1", "bad line 1, weigh 1 -5: a sign in -5"),
+    (["run"], b"weigh 1 262.1234\n", "bad line 1",
+     "bad line 1, weigh 1 262.1234: more than three decimals in 262.1234"),
+    (["run"], b"weigh 1 262g\n", "bad line 1", "bad line 1, weigh 1 262g: a unit in 262g"),
+    (["run"], b"@65536 1 day 2025-03-03\n", "bad line 1",
+     "bad line 1, @65536 1 day 2025-03-03: a desk is 0 to 65535, not 65536"),
+    (["run"], b"@101 4294967296 day 9999-12-31\n", "bad line 1",
+     "bad line 1, @101 4294967296 day 9999-12-31: a request is 0 to 4294967295, not 4294967296"),
+    (["run"], b"@101 day 2025-03-03\n", "bad line 1",
+     "bad line 1, @101 day 2025-03-03: the request number is missing before day"),
+    (["run"], b"void 4294967296\n", "bad line 1",
+     "bad line 1, void 4294967296: a pack is 1 to 4294967295, not 4294967296"),
+    (["run"], b"open " + b"A" * 33 + b" rice250\n", "bad line 1",
+     f"bad line 1, open {'A' * 33} rice250: more than 32 bytes in the name {'A' * 33}"),
     (["run"], b"day 3.3.2025\r\n", "bad line 1",
      "bad line 1, day 3.3.2025\\x0d: not as day DATE (2025-03-03)"),
     (["run"], b"day 2025-03-03\nday", "bad line 2",
@@ -54,11 +70,30 @@ ROWS = [
     (["import"], HEADER + b"101,1\n", "bad line 2",
      "bad line 2, 101,1: three fields are wanted: desk,request,command"),
     (["serve"], b"reserve = 10\nlane = 1\n", "bad plan",
-     "bad plan: a value is of another kind or out of its range, or its lanes aren't --lanes in"
-     " number"),
+     "bad plan: lane isn't an array of tables: [[lane]]"),
+    (["serve"], b"reserve = 1000001\n", "bad plan",
+     "bad plan: reserve isn't a number from 0 to 1000000"),
+    (["serve"], b"setup = 1\n", "bad plan", "bad plan: setup isn't a text"),
+    (["serve"], b"[[lane]]\nnumber = 17\nbatch = \"A\"\n", "bad plan",
+     "bad plan: [[lane]] 1: its number isn't 1 to 16"),
+    (["serve"], b"[[lane]]\nnumber = 1\n", "bad plan", "bad plan: [[lane]] 1: it has no batch"),
+    (["serve"], b"[[lane]]\nnumber = 1\nbatch = \"A\"\n" * 2, "bad plan",
+     "bad plan: [[lane]] 2: its number was there before"),
+    (["serve", "--lanes=2"], b"[[lane]]\nnumber = 1\nbatch = \"A\"\n", "bad plan",
+     "plan has 1 lane, --lanes 2"),
+    (["serve", "--lanes=1"], b"", "bad plan", "plan has 0 lanes, --lanes 1"),
+    (["serve"], b"#" * 65_537, "bad plan", "bad plan: it has more than 65536 bytes"),
     (["serve"], b"reserve = \xff\n", "bad plan", "bad plan: it isn't a text in UTF-8"),
     (["serve"], b'setup = """\n@164 1 day 2025-03-03\n@164 2 dya 2025-03-04\n"""\n', "bad line 2",
      "bad line 2, @164 2 dya 2025-03-04: no such command: dya"),
+    (["prove"], b"paper 1\nbatch B\n", "bad line 2",
+     "bad line 2, batch B: not as batch B product P nominal G unit U density G row N, or not the"
+     " second line"),
+    (["prove"], b"paper 1\n", "bad line 2", "bad line 2, : the paper ends here, or has an empty"
+     " line"),
+    (["prove"], b"paper 1", "bad line 1", "bad line 1, paper 1: it has no LF"),
+    (["prove"], b"papier 1\n", "bad line 1",
+     "bad line 1, papier 1: no line of a paper begins so"),
     (["follow"], b"x\n", "bad line 0", None),
     (["run"], b"day 2025-03-03\n", "batches running 0 ended 0 drawn 0 closed 0", None),
 ]
@@ -80,8 +115,16 @@ DAY, PRODUCT = "@164 1 day 2025-03-03", "@164 2 product rice250 250"
 TARE, OPEN = "@164 3 tare rice250 2025-03-03 10", "@164 4 open A rice250"
 WRONG_TARE, ONE_DAY = TARE.replace("rice250", "rice"), b"day 2025-03-03\n"
 NO_BOOK = "without --book the rows are in memory alone, and gone at the end"
+EMPTY = "without --book this is of an empty book"
 MADE = "BOOK: there was no book, a new one was made"
+ABSENT = "can't open BOOK: No such file or directory (os error 2)"
 IS_FULL = "a full book takes no act, not even a verdict"
+
+
+def serving(rows, limit=1_000_000):
+    """What a hall without lanes and doors says as it begins to serve."""
+    return f"serving, lanes 0, doors 0, rows {rows}, left {limit - rows}"
+
 
 # Over one book after another: what is done in turn, each as words, an input, and all that is said.
 # SETUPS have standard error in a file, TERMINALS in a terminal; BOOK is the path of the book.
@@ -89,33 +132,41 @@ SETUPS = [
     [(["serve", "BOOK"], plan(DAY, PRODUCT, WRONG_TARE, OPEN),
       [f"line 3 of the setup, {WRONG_TARE}: refused 9 ProductUnknown at 2: no product has this"
        " name", f"line 4 of the setup, {OPEN}: refused 4 RequestGap 2 at 2: the desk's next request"
-       " has another number: a line before was refused, or one is left out"]),
-     (["serve", "BOOK"], plan(DAY, PRODUCT, TARE, OPEN), []),
-     (["serve", "BOOK"], plan(DAY, PRODUCT, TARE, OPEN), []),
+       " has another number: a line before was refused, or one is left out", serving(2)]),
+     (["serve", "BOOK"], plan(DAY, PRODUCT, TARE, OPEN), [serving(4)]),
+     (["serve", "BOOK"], plan(DAY, PRODUCT, TARE, OPEN), [serving(4)]),
      (["serve", "BOOK"], plan(DAY, PRODUCT, TARE, "@164 4 open B rice250"),
       ["line 4 of the setup, @164 4 open B rice250: refused 3 RequestReused 4 at 4: the desk did"
-       " another act under this number: give the line a new one"])],
+       " another act under this number: give the line a new one", serving(4)])],
     [(["serve"], plan("", "# none", "@164 1 close A", "sheet A"),
       ["line 3 of the setup, @164 1 close A: refused 6 DayUnset at 0: a day has to be set first",
-       "line 4 of the setup, sheet A: refused 14 BatchUnknown at 0: no batch has this name"])],
+       "line 4 of the setup, sheet A: refused 14 BatchUnknown at 0: no batch has this name",
+       serving(0)])],
     [(["serve"], plan("day 2025-03-03", "day 2025-03-02", "dya 2025-03-04"),
       ["line 1 of the setup has no desk, and acts at each start (@164 1 ..)",
        "line 2 of the setup, day 2025-03-02: refused 7 DayBack 2025-03-03 at 1: the book is at a"
        " later day", "bad line 3, dya 2025-03-04: no such command: dya"])],
     [(["run"], b"close A\n", []), (["run", "BOOK"], ONE_DAY, []),
      (["run", "--limit=200"], ONE_DAY * 199 + b"day 2052-03-04\n", [])],
+    [(["serve", "BOOK", "--limit=200"], plan(*["day 2025-03-03"] * 201),
+      ["line 1 of the setup has no desk, and acts at each start (@164 1 ..)",
+       f"2 rows are left of 200: {IS_FULL}",
+       "the book is full: it takes no act, not even a verdict",
+       "line 201 of the setup, day 2025-03-03: refused 5 BookFull 200 at 200: the book is full",
+       serving(200, 200)])],
+    [(["run"], b"", []), (["check"], b"", [EMPTY]), (["check", "BOOK"], b"", [ABSENT])],
 ]
 TERMINALS = [
-    [(["run"], ONE_DAY, [NO_BOOK]), (["serve"], plan(), [NO_BOOK]),
-     (["import"], HEADER, [NO_BOOK]), (["trial", "0", "100"], b"", []), (["check"], b"", []),
-     (["list"], b"", [])],
+    [(["run"], ONE_DAY, [NO_BOOK]), (["serve"], plan(), [NO_BOOK, serving(0)]),
+     (["import"], HEADER, [NO_BOOK]), (["trial", "0", "100"], b"", []), (["check"], b"", [EMPTY]),
+     (["list"], b"", [EMPTY])],
     [(["run", "BOOK"], ONE_DAY, [MADE]), (["run", "BOOK"], b"day 2025-04-03\n", []),
      (["run", "BOOK"], b"day 2025-04-02\nday 2025-05-05\n@101 1 day 2026-05-05\n",
       ["row 3: the day is 32 days ahead of the one before, and it stands",
        "row 4: the day is 365 days ahead of the one before, and it stands"]),
      (["run", "BOOK"], b"summary\n", []), (["report", "BOOK"], b"", [])],
     [(["serve", "BOOK"], plan(DAY, "@164 2 day 2052-03-04"),
-      [MADE, "row 2: the day is 9863 days ahead of the one before, and it stands"])],
+      [MADE, serving(2), "row 2: the day is 9863 days ahead of the one before, and it stands"])],
     [(["run", "BOOK", "--limit=200"], ONE_DAY * 197, [MADE]),
      (["run", "BOOK", "--limit=200"], ONE_DAY, [f"2 rows are left of 200: {IS_FULL}"]),
      (["run", "BOOK", "--limit=200"], ONE_DAY * 9, [f"0 rows are left of 200: {IS_FULL}"]),
@@ -124,7 +175,7 @@ TERMINALS = [
     [(["run", "BOOK", "--limit=50010"], ONE_DAY * 9, [MADE]),
      (["run", "BOOK", "--limit=50010"], ONE_DAY * 2, [f"49999 rows are left of 50010: {IS_FULL}"]),
      (["run", "BOOK", "--limit=50010"], ONE_DAY, [])],
-    [(["check", "BOOK"], b"", ["BOOK: there is no book"])],
+    [(["check", "BOOK"], b"", [ABSENT])],
 ]
 # What is done to a file that can't be written, or with no room for its bytes, and what is said.
 UNWRITABLE = [(words, ["BOOK: it can't be written; it was read as it stands"])
@@ -203,11 +254,15 @@ def with_files(program, folder):
 
 def ask(program, folder, words, given):
     """The last line of a run, and what it says of a bad line."""
-    told = subprocess.run([program, *words, f"--book={folder}/book"], input=given, timeout=60,
-                          capture_output=True, check=False)
-    bad = [line for line in told.stderr.decode().splitlines() if line.startswith("hall: bad ")]
+    book = f"{folder}/book"
+    named = words if words == ["prove"] else [*words, f"--book={book}"]
+    told = subprocess.run([program, *named], input=given, timeout=60, capture_output=True,
+                          check=False)
+    bad = [line for line in told.stderr.decode().splitlines()
+           if line.startswith(("hall: bad ", "hall: plan "))]
     said = told.stdout.decode().splitlines() or [""]
-    os.remove(f"{folder}/book")
+    if os.path.exists(book):
+        os.remove(book)
     return said[-1], told.returncode, "\n".join(line.removeprefix("hall: ") for line in bad) or None
 
 

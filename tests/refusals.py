@@ -68,13 +68,9 @@ class Place:
         except subprocess.TimeoutExpired:
             raise Wrong(f"{words} doesn't return in {LONGEST} s") from None
         self.errors = ran.stderr
-        need(self.is_unopened(ran.returncode, ran.stdout) or ran.stderr in ("", self.notice()),
+        need(self.is_unopened(ran.returncode, ran.stdout) or ran.stderr == "",
              f"{words} says on standard error: {ran.stderr}")
         return ran.returncode, ran.stdout
-
-    def notice(self):
-        """What standard error says where a command that adds nothing finds no file."""
-        return f"hall: {self.book}: there is no book\n"
 
     def is_unopened(self, status, said):
         """Whether the file couldn't be opened for want of memory: standard error says so."""
@@ -86,8 +82,10 @@ class Place:
         return slots_behind(self.book, 0) if os.path.exists(self.book) else b""
 
     def rows(self):
-        """The rows of the book, which `check` has to find whole."""
-        rows = rows_behind(self.book, 0) if os.path.exists(self.book) else []
+        """The rows of the book, which `check` has to find whole; none where no file was made."""
+        if not os.path.exists(self.book):
+            return []
+        rows = rows_behind(self.book, 0)
         said = self.run("check")
         need(said == (0, f"rows {len(rows)} whole\n"),
              f"the file has {len(rows)} rows, check says {said}")

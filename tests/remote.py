@@ -393,10 +393,10 @@ def hear(link, wanted):
 
 
 def in_use(program, folder, port):
-    """A port that another has: the cell fails when it is first asked, and the hall says why."""
+    """A port that another has: the hall ends before anything is done, and says why."""
     with socket.create_server(("127.0.0.1", port)):
         hall = one_lane(program, folder, "in_use", port)
-        ends_as(hall, "lane 1 opened 0 cell", 10)
+        ends_as(hall, "disk fault", 6)
     with open(f"{folder}/in_use/errors", encoding="utf-8") as errors:
         need(f"can't listen at port {port}" in errors.read(), "the hall doesn't say why")
 
@@ -523,7 +523,7 @@ def main():
     paused.result()
     print(f"a scale that is silent for {PAUSE} s: it goes on over its connection")
     in_use(program, folder, port)
-    print("a port that another has: the lane ends by its cell, status 10")
+    print("a port that another has: the hall ends before anything is done, status 6")
     print(f"one who is silent, and one who stops in mid-line: the next was heard after"
           f" {silent(program, folder, port + 1):.1f} s", flush=True)
     said, seconds = deaf(program, folder, port + 2)

@@ -13,6 +13,8 @@ FIRST_DAY = date(1970, 1, 1).toordinal()
 PRIORS = ("none", "opened", "stayed", "unknown")
 SIGNALS = ("pass", "reject held", "reject full", "reject inadequate", "reject allowance")
 MODES = ("", "keep", "destroy")
+# Where a product has its unit, 1 by volume, and a batch its density, 0 by mass.
+UNIT, DENSITY = 55, 80
 
 
 class Row(NamedTuple):
@@ -65,6 +67,10 @@ def row_of(slot):
     """The entry that the bytes of a slot spell."""
     kind, fields = KINDS[slot[1]]
     act = {"act": kind} | {said: read(slot, place) for said, (place, read) in fields.items()}
+    if kind == "product" and slot[UNIT]:
+        act["act"] = "product_ml"
+    if kind == "open" and (density := number(4)(slot, DENSITY)):
+        act |= {"act": "open_at", "density": density}
     signal = SIGNALS[slot[20]] if kind == "weigh" else ""
     return Row(number(4)(slot, 2), number(2)(slot, 6), number(2)(slot, 8), number(4)(slot, 10),
                act, signal)

@@ -1,4 +1,5 @@
-"""The scripts of examples/scales over pseudo-terminals. Run by tests/scales.sh.
+"""The static scales of adapters/devices and the scripts of examples/scales, over pseudo-terminals.
+Run by tests/scales.sh.
 
 The lines are written by hand after the makers' protocols: SICS of Mettler-Toledo, the standard
 format of A&D, and the 16 and 22 signs of Sartorius SBI.
@@ -15,11 +16,12 @@ import tty
 
 from clients import Hall, free_ports, make_pipes, need, plan
 
-SCALES = os.path.join(os.path.dirname(os.path.dirname(os.path.abspath(__file__))),
-                      "examples", "scales")
+TOP = os.path.dirname(os.path.dirname(os.path.abspath(__file__)))
+SCALES = os.path.join(TOP, "examples", "scales")
+ADAPTER = os.path.join(TOP, "adapters", "hall-adapter")
 SETUP = "day 2025-03-03\nproduct P 250\ntare P 2025-03-03 10\nopen A P\n"
 
-# For each dialect and unit: lines, each with the weight that it is, or nothing where it is none.
+# For each table and unit: lines, each with the weight that it is, or nothing where it is none.
 LINES = {
     ("sics", "g"): [
         (b"S S     251.000 g", b"251.000"), (b"S S    2510.00 g ", b"2510.000"),
@@ -67,7 +69,7 @@ def held(device):
     return int.from_bytes(fcntl.ioctl(device, termios.FIONREAD, bytes(4)), sys.byteorder)
 
 
-def wait_until(there, seconds=20):
+def wait_until(there, seconds=60):
     """Waits until something holds; it has to in so many seconds."""
     until = time.monotonic() + seconds
     while not there():
@@ -75,12 +77,12 @@ def wait_until(there, seconds=20):
         time.sleep(0.01)
 
 
-def weigh(dialect, unit, lines, end, piece):
-    """What the script makes of lines that come over a serial line in pieces."""
+def weigh(table, unit, lines, end, piece):
+    """What `hall-adapter weights` makes of lines that come over a serial line in pieces."""
     scale, device = open_scale()
     os.write(scale, b"S S     111.000 g\r\n")
     wait_until(lambda: held(device))
-    script = subprocess.Popen([f"{SCALES}/weights.py", dialect, "--unit", unit], stdin=device,
+    script = subprocess.Popen([ADAPTER, "weights", table, "--unit", unit], stdin=device,
                               stdout=subprocess.PIPE, stderr=subprocess.PIPE)
     wait_until(lambda: not held(device))
     said = b"".join(line + end for line, _ in lines)
@@ -92,20 +94,20 @@ def weigh(dialect, unit, lines, end, piece):
     wait_until(lambda: not held(device))
     os.close(device)
     os.close(scale)
-    told, counts = script.communicate(timeout=20)
-    need(script.returncode == 0, f"{dialect}: status {script.returncode}, {counts}")
+    told, counts = script.communicate(timeout=60)
+    need(script.returncode == 0, f"{table}: status {script.returncode}, {counts}")
     return told, counts.decode().splitlines()[-1]
 
 
-def check_dialects():
+def check_tables():
     tried = 0
-    for (dialect, unit), lines in LINES.items():
+    for (table, unit), lines in LINES.items():
         weights = [weight for _, weight in lines if weight]
         counts = f"weights: {len(weights)} handed on, {len(lines) - len(weights)} left out"
         for end, piece in ((b"\r\n", 1000), (b"\n", 1000), (b"\r\n", 3)):
-            told, said = weigh(dialect, unit, lines, end, piece)
-            need(told == b"".join(weight + b"\n" for weight in weights), f"{dialect}: {told}")
-            need(said == counts, f"{dialect}: {said} for {counts}")
+            told, said = weigh(table, unit, lines, end, piece)
+            need(told == b"".join(weight + b"\n" for weight in weights), f"{table}: {told}")
+            need(said == counts, f"{table}: {said} for {counts}")
             tried += len(lines)
     print(f"scales: {tried} lines over pseudo-terminals; what the device held before was dropped")
 
@@ -122,12 +124,18 @@ def check_gate(room):
         open(notes, "w").close()
         command = f'echo "$PACK" >>{notes}; [ "$PACK" != 7 ] || exit 5'
         ran = subprocess.run([f"{SCALES}/gate.sh", "sh", "-c", command], input=said,
-                             capture_output=True, timeout=20)
+                             capture_output=True, timeout=60)
         with open(notes, encoding="ascii") as noted:
             need(noted.read() == calls, f"{said}: called otherwise than {calls!r}")
         need(ran.returncode == status, f"{said}: status {ran.returncode}")
         need(complaint in ran.stderr.decode(), f"{said}: {ran.stderr}")
     print("scales: `open N` calls its command, and nothing else does")
+
+
+def read_words(path):
+    """The words of a file."""
+    with open(path, encoding="ascii") as source:
+        return source.read().split()
 
 
 def check_lane(program, room):
@@ -141,13 +149,17 @@ def check_lane(program, room):
     lane = subprocess.Popen([f"{SCALES}/lane.sh", device, "sics", f"{room}/cell-1.txt"],
                             start_new_session=True, stderr=subprocess.DEVNULL)
     try:
-        for weights in ((b"262.000", b"230.000"), (b"261.500",)):
+        for weights, opened in (((b"262.000", b"230.000"), 1), ((b"261.500",), 2)):
             scale, line = open_scale()
+            # what it holds before it is read is dropped; once it holds nothing it is read
+            os.write(scale, b"S S     111.000 g\r\n")
+            wait_until(lambda: held(line))
             os.symlink(os.ttyname(line), device)
-            time.sleep(2.5)
+            wait_until(lambda: not held(line))
             for weight in weights:
                 os.write(scale, b"S D     100.000 g\r\nS S     " + weight + b" g\r\n")
-            time.sleep(1)
+            wait_until(lambda: os.path.exists(notes) and len(read_words(notes)) == opened)
+            wait_until(lambda: not held(line))
             os.remove(device)
             os.close(line)
             os.close(scale)
@@ -155,17 +167,16 @@ def check_lane(program, room):
     finally:
         for process in (lane, gate):
             os.killpg(process.pid, 15)
-            process.wait(10)
-    need(hall.wait(20) == 0, "the hall ends behind its lane")
+            process.wait(60)
+    need(hall.wait(60) == 0, "the hall ends behind its lane")
     need("lane 1 opened 2 done" in hall.said(), f"the lane said {hall.said()}")
-    with open(notes, encoding="ascii") as noted:
-        need(noted.read().split() == ["6", "8"], "the gate opened for packs 6 and 8")
+    need(read_words(notes) == ["6", "8"], "the gate opened for packs 6 and 8")
     print("scales: a lane was fed by a scale that was away between two packs")
 
 
 def main():
     program, room = sys.argv[1:]
-    check_dialects()
+    check_tables()
     check_gate(room)
     check_lane(os.path.abspath(program), room)
 

@@ -1,12 +1,19 @@
 #!/bin/sh
-# The screen in a real browser: a day of a hall by clicks and keys, from the day to a verdict with a
-# second sample, over `hall serve`, the front as it is shipped, and headless Chromium; and a program
-# that acts by curl beside the pages. The book is checked and compared with what each was answered.
+# The screen in a real browser over `hall serve`, the front as it is shipped, and headless Chromium:
 #
-# usage: tests/screen.sh [PICTURES]    HALL names the program; screenshots are left in PICTURES
+#   day     a day of a hall by keys alone, from the day to a verdict with a second sample, with cut
+#           links, a full disk, two desks and two pages: each act is a row of the book
+#   signs   what the pages say: forecasts, alarms, their sound, lanes, settings, a full book, what
+#           stores hold that isn't theirs
+#   pages   each page at five sizes, light and dark, in both languages, with 1, 4 and 16 lanes and
+#           long names: no text cut or overlapping, contrast, labels and roles, no layout shift, size
+#   busy    the board with 16 lanes at 20 packs a second each: processor and memory
+#
+# usage: tests/screen.sh [PICTURES [PART..]]    HALL names the program; screenshots are left in
+#                                               PICTURES; without a PART all are done
 # needs: root, and of Debian: nginx libnginx-mod-http-js chromium chromium-driver python3-selenium
-#        poppler-utils iproute2 openssl util-linux curl; what is missing is installed. Done in 5
-#        minutes, at most 15; in mounts and a network of its own.
+#        poppler-utils iproute2 openssl util-linux curl; what is missing is installed. A part is done
+#        in 5 minutes, at most 30; each in mounts and a network of its own.
 set -eu
 cd "$(dirname "$0")/.."
 . tests/need.sh
@@ -16,9 +23,18 @@ if [ -z "${HALL:-}" ]; then tools/build; fi
 hall=$(realpath "${HALL:-crates/hall_cli/out/hall_cli}")
 room=$(mktemp -d)
 trap 'rm -rf "$room"; rmdir /etc/hall /usr/share/hall 2>/dev/null || true' EXIT
-pictures=$(realpath "${1:-$room}")
+pictures=$room/pictures
+if [ $# -gt 0 ]; then
+    pictures=$1
+    shift
+fi
 mkdir -p "$pictures"
+pictures=$(realpath "$pictures")
 chmod 755 "$room"
-# the Python for which Debian's selenium is
-unshare --mount --net --pid --fork --kill-child --mount-proc \
-    timeout 900 /usr/bin/python3 tests/screen.py "$hall" "$room" "$pictures"
+[ $# -gt 0 ] || set -- day signs pages busy
+for part; do
+    mkdir "$room/$part"
+    # the Python for which Debian's selenium is
+    unshare --mount --net --pid --fork --kill-child --mount-proc timeout 1800 \
+        /usr/bin/python3 tests/screen.py "$part" "$hall" "$room/$part" "$pictures"
+done

@@ -16,6 +16,7 @@ import sys
 import tempfile
 import time
 
+from book_texts import ACTS_OF_FIVE, BOOK_TEXTS
 from day_texts import read_days
 from rows import rows_behind
 from worked_tables import (
@@ -149,6 +150,7 @@ def held(hall):
         compare(f"{command} of a held book", hall.ask([command], SIXTH_ROW.given),
                 ("disk fault\n", 6))
     compare("check of a held book", hall.ask(["check"]), ("rows 5 whole\n", 0))
+    compare("acts of a held book", hall.ask(["acts"]), (ACTS_OF_FIVE, 0))
     for command in ("report", "export", "list"):
         compare(f"{command} of a held book", hall.ask([command])[1], 0)
     compare("a held book", hall.bytes(), written)
@@ -180,6 +182,7 @@ def journals(hall):
     for _ in range(2):
         hall.do(carried)
         compare("the journal's book", hall.bytes(), five)
+    hall.do(Step(["acts"], b"", ACTS_OF_FIVE))
     hall.do(SIXTH_ROW)
     six = hall.bytes()
     hall.do(carried._replace(printed="rows 6 whole\n", rows=6))
@@ -256,8 +259,8 @@ def papers(hall):
 
 
 def printed(hall):
-    """Reports and registers, which leave the book as it was to the last byte."""
-    for steps, questions in PRINTED:
+    """Reports, registers and texts, which leave the book as it was to the last byte."""
+    for steps, questions in PRINTED + BOOK_TEXTS:
         hall.anew()
         for step in steps:
             hall.do(step)

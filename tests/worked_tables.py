@@ -269,7 +269,9 @@ lane 1 batch A
 """
 
 PRINTED = [
-    ([], [Step(["report"], b"", totals(0), 0, 0), Step(["export"], b"x", NO_PACK, 0, 0),
+    ([], [Step(["report"], b"", "disk fault\n", 6), Step(["list"], b"", "disk fault\n", 6)]),
+    ([Step(["run"], b"", totals(0), 0, 0)],
+     [Step(["report"], b"", totals(0), 0, 0), Step(["export"], b"x", NO_PACK, 0, 0),
           Step(["list"], b"", "day none\nrows 0 left 1000000\n", 0, 0)]),
     ([FIVE_ROWS], [Step(["report", "--batch", "B"], b"", "refused 14 BatchUnknown at 5\n"),
                    Step(["export"], b"", NO_PACK),
@@ -519,11 +521,11 @@ SETUPS = [
      b'open A a\n"""\n',
      "hall: line 5 of the setup has no desk, and acts at each start (@164 1 ..)\n"
      "hall: line 6 of the setup, open A a: refused 9 ProductUnknown at 2: no product has this"
-     " name\n"),
+     " name\nhall: serving, lanes 0, doors 0, rows 2, left 999998\n"),
     ("serve", b"reserve = 1\nsetup = '''\ntare a 2025-03-03 1\n'''\n",
      "hall: line 1 of the setup has no desk, and acts at each start (@164 1 ..)\n"
      "hall: line 1 of the setup, tare a 2025-03-03 1: refused 6 DayUnset at 0: a day has to be set"
-     " first\n"),
+     " first\nhall: serving, lanes 0, doors 0, rows 0, left 1000000\n"),
     ("serve", b'setup = """\n@164 1 day 2025-03-03\n@164 2 product a 250\n"""\n# """\nday\n',
      "hall: bad plan: its line 6 isn't TOML: key with no value, expected `=`\n"),
     ("run", b'setup = """\nday 2025-03-03\n"""\n',

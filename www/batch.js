@@ -1,116 +1,317 @@
-// The chart of a batch, and its sheet for the file, of one page of paper.
+// One batch, whole: its charts with a cursor for the mouse and the keyboard, what is given away in
+// grams, percent and money, and what was rejected and why.
 
-import * as office from "./office.js";
-import { atRows, packAt, settledPacks } from "./follow.js";
-import { addNames, names } from "./names.js";
-import { chart, inWords, legend } from "./chart.js";
-import { facts, heldMark, make, put, sheetFacts, table, verdictMark } from "./page.js";
-import { refusal, say, time, word } from "./words.js";
-import { spellGrams } from "./grams.js";
+import { MOST_PACKS, limitsOf } from "./rules.js";
+import { RULES, causesOf, groupSize, isCounted, meanAndS } from "./control.js";
+import { addWords, say, word } from "./words.js";
+import { count, fixed, grams, mass, percent, quantity } from "./numbers.js";
+import { drawChart, groupsOf } from "./chart.js";
+import { facts, icon, loadStyles, make, meter, notice, put, shape, signalTag, table, verdictTag,
+  whenSized } from "./page.js";
+import { priceOf, settings } from "./settings.js";
+import { BatchPage } from "./loader.js";
+import { forecastOf } from "./forecast.js";
+import { forecastWords } from "./forecastwords.js";
 
-// A page about a batch: a field for its name, and below it what `draw` makes of its packs.
-class BatchPage {
-  constructor(name, draw) {
-    Object.assign(this, { name, draw, batch: "", rows: 0, stopped: false, shown: "" });
+addWords({
+  toSheet: ["Sheet to print", "Blatt zum Drucken"],
+  all: ["All", "Alle"],
+  window: ["Packs shown", "Gezeigte Packungen"],
+  packOf: ["{place} of {count}", "{place} von {count}"],
+  cursor: ["Pack at the cursor", "Packung am Zeiger"],
+  cursorHint: ["Arrow keys: pack by pack · Page up, Page down: 50 · Home, End",
+    "Pfeile: Packung für Packung · Bild auf, Bild ab: 50 · Pos1, Ende"],
+  cursorSays: ["pack {pack}, net {net} g, {signal}, {pile}",
+    "Packung {pack}, netto {net} g, {signal}, {pile}"],
+  group: ["Its {size}: x̄ · s", "Ihre {size}: x̄ · s"],
+  givenEach: ["Given away, a pack", "Verschenkt, je Packung"],
+  givenAll: ["Given away, in all", "Verschenkt, insgesamt"],
+  ofNominal: ["{share} of nominal", "{share} der Nennmenge"],
+  money: ["{sum} at {price} a {unit}", "{sum} bei {price} je {unit}"],
+  noPrice: ["no price is set for {product}", "kein Preis gesetzt für {product}"],
+  meanS: ["Mean · s", "Mittel · s"],
+  counted: ["Packs that count", "Packungen, die zählen"],
+  weighed: ["of {count} weighed", "von {count} gewogenen"],
+  light: ["Non-standard of allowed", "Untermaß von erlaubt"],
+  share: ["{share} of the packs; one in forty is {most}",
+    "{share} der Packungen; 1 von 40 sind {most}"],
+  inadequateName: ["Inadequate", "Unzulässig"],
+  below: ["below T2, {limit} g", "unter T2, {limit} g"],
+  rejects: ["Rejected and voided packs", "Ausgeschleuste und gestrichene Packungen"],
+  belowBy: ["Over nominal, g", "Über Nennmenge, g"],
+  perReason: ["By cause", "Nach Grund"],
+  stayed: ["the gate stayed shut", "das Tor blieb zu"],
+  showAll: ["Show all {count}", "Alle {count} zeigen"],
+  noRejects: ["None.", "Keine."],
+  "rule beyond3": ["beyond 3 sigma", "außerhalb 3 Sigma"],
+  "rule two3": ["2 of 3 beyond 2 sigma", "2 von 3 außerhalb 2 Sigma"],
+  "rule four5": ["4 of 5 beyond 1 sigma", "4 von 5 außerhalb 1 Sigma"],
+  "rule eight": ["8 in a row on one side", "8 in Folge auf einer Seite"],
+  outGroups: ["{marked} of {all} subgroups by a run rule: {rules}",
+    "{marked} von {all} Gruppen nach einer Laufregel: {rules}"],
+  outWhere: ["First at pack {from}, last at pack {to} of the batch.",
+    "Zuerst bei Packung {from}, zuletzt bei Packung {to} der Charge."],
+  noPacksText: ["No pack of this batch was weighed yet. Give it a lane; the chart then begins by "
+    + "itself.", "Von dieser Charge ist noch keine Packung gewogen. Ihr eine Linie geben; die Karte "
+    + "beginnt dann von selbst."],
+  meanOf: ["mean of 30", "Mittel von 30"],
+  beyond: ["beyond the chart", "außerhalb der Karte"],
+  tareChange: ["another tare", "andere Tara"],
+  ucl: ["limits, 3 sigma", "Grenzen, 3 Sigma"],
+  byRule: ["by a run rule", "nach einer Laufregel"],
+});
+
+const FEW = 10;
+const WINDOWS = [MOST_PACKS, 2_000, 500, 100];
+const FAR = 50;
+const money = (sum) => `${fixed(sum, 2)} ${settings.currency}`;
+
+// ---- figures
+
+function givenAway(sheet, { average: { aboveAll } }) {
+  const price = priceOf(sheet.product);
+  if (price === null) return say("noPrice", sheet);
+  const density = sheet.unit === "ml" ? sheet.density / 1e6 : 1;
+  return say("money", { sum: money(aboveAll / 1e6 / density * price), price: money(price),
+    unit: sheet.unit === "ml" ? "l" : "kg" });
+}
+
+function headFacts(sheet, packs) {
+  const limits = limitsOf(sheet);
+  const forecast = forecastOf(sheet);
+  const { above, aboveAll } = forecast.average;
+  const { mean, s } = meanAndS(packs.filter(isCounted).map(({ net }) => net));
+  const figure = (value, spelled) => (sheet.population ? spelled(value) : "–");
+  return facts([
+    [say("counted"), count(sheet.population), say("weighed", { count: count(sheet.piles.readings) })],
+    [say("meanS"), figure(mean, (value) => `${grams(value, 2)} · ${grams(s, 2)} g`),
+      `T1 ${grams(limits.t1, 1)} · T2 ${grams(limits.t2, 1)} g`],
+    [say("light"), say("ofAllowed", { used: count(sheet.nonstandard),
+      allowed: count(forecast.allowed) }), say("share", { most: percent(.025, 1),
+      share: percent(sheet.nonstandard / Math.max(1, sheet.population)) })],
+    [say("inadequateName"), count(sheet.inadequate), say("below", { limit: grams(limits.t2, 1) })],
+    [say("givenEach"), figure(above, (value) => `${grams(value, 2, true)} g`),
+      say("ofNominal", { share: percent(above / limits.nominal, 2, true) })],
+    [say("givenAll"), mass(aboveAll, true), givenAway(sheet, forecast)],
+  ]);
+}
+
+function titleOf(sheet) {
+  const [kind, sign, told, more] = forecastWords(forecastOf(sheet), sheet);
+  const loud = { ok: "ok", edge: "warn", early: "calm" }[kind] ?? "alarm";
+  const says = make("span", { className: `tag ${loud}` }, icon(sign),
+    make("span", {}, more ? `${told} (${more})` : told));
+  return make("div", { className: "title" }, make("div", {}, make("h2", {}, sheet.batch),
+    make("p", { className: "quiet" },
+      `${sheet.product} · ${quantity(sheet.quantity)} ${sheet.unit} · ${word(sheet.state)}`)),
+  sheet.verdict ? verdictTag(sheet.verdict) : says, make("p", { className: "right" },
+    make("a", { className: "button second", href: `#sheet/${sheet.batch}` }, icon("print"),
+      say("toSheet"))));
+}
+
+// ---- the chart and its cursor
+
+class Cursor {
+  constructor(sheet, packs) {
+    const groups = groupsOf(packs, groupSize(packs.filter(isCounted).length));
+    Object.assign(this, { sheet, packs, groups, at: packs.length - 1, view: [0, packs.length] });
+    this.build();
   }
 
-  build(section) {
-    const id = `${this.name}-batch`;
-    this.field = make("input", { id, required: true, list: "batches", autocomplete: "off" });
-    this.said = make("p");
-    this.stopper = make("button", { type: "button", hidden: true }, say("stop"));
-    this.stopper.addEventListener("click", () => { this.stopped = true; });
-    this.place = make("div", { className: "result" });
-    const form = make("form", { className: "line" }, make("label", { for: id }, say("batch")),
-      this.field, make("button", {}, say("show")), this.stopper);
-    form.addEventListener("submit", (event) => {
-      event.preventDefault();
-      location.hash = `#${this.name}/${this.field.value.trim()}`;
+  build() {
+    const fact = (key, values) => {
+      const part = { name: make("dt", {}, say(key, values)), value: make("dd"),
+        more: make("dd", { className: "quiet" }) };
+      part.row = make("div", {}, part.name, part.value, part.more);
+      return part;
+    };
+    this.parts = { pack: fact("pack"), net: fact("net"), signal: fact("signal"),
+      lane: fact("lane"), group: fact("group", this.groups) };
+    this.range = make("input", { type: "range", id: "cursor", "aria-label": say("cursor") });
+    this.place = make("div", { className: "chart-place" });
+    this.windows = make("div", { className: "choice", role: "group", "aria-label": say("window") },
+      WINDOWS.filter((many, at) => at === 0 || many < this.packs.length).map((many, at) => {
+        const button = make("button", { type: "button", "aria-pressed": at === 0 },
+          at === 0 ? say("all") : count(many));
+        button.addEventListener("click", () => this.show(many, button));
+        return button;
+      }));
+    this.whole = make("section", { className: "panel chart-panel" },
+      make("div", { className: "chart-head" },
+        make("dl", { className: "reading" }, Object.values(this.parts).map(({ row }) => row)),
+        this.windows), this.place, make("div", { className: "under-plot" }, this.range),
+      make("p", { className: "plot-hint quiet" }, say("cursorHint")), keys());
+    this.listen();
+    whenSized(this.place, (wide) => this.draw(wide));
+    this.put();
+  }
+
+  listen() {
+    this.place.addEventListener("pointermove", (event) => {
+      const { chart, view: [from, to] } = this;
+      const x = event.clientX - this.place.getBoundingClientRect().left;
+      if (!chart || x < chart.left || x > chart.right) return;
+      this.move(Math.round(from + (x - chart.left) / (chart.right - chart.left) * (to - from) - .5));
     });
-    section.append(form, this.said, this.place);
+    this.range.addEventListener("input", () => this.move(Number(this.range.value)));
+    this.range.addEventListener("keydown", (event) => {
+      const far = { PageUp: FAR, PageDown: -FAR }[event.key];
+      if (!far) return;
+      event.preventDefault();
+      this.move(this.at + far);
+    });
   }
 
-  show(batch) {
-    const chosen = batch || this.batch || (names().batches[0] ?? "");
-    if (chosen !== this.batch) Object.assign(this, { batch: chosen, rows: 0, stopped: false });
-    this.field.value = chosen;
-    if (chosen) office.following(() => this.refresh());
+  draw(wide) {
+    const began = performance.now();
+    this.wide = wide;
+    this.chart = drawChart({ ...this, wide });
+    this.line = shape("path", { class: "cursor" });
+    this.ring = shape("circle", { class: "m-cursor", r: 6 });
+    this.chart.picture.append(this.line, this.ring);
+    this.place.replaceChildren(this.chart.picture);
+    this.place.dataset.took = (performance.now() - began).toFixed(1);
+    Object.assign(this.range, { min: this.view[0], max: this.view[1] - 1, value: this.at });
+    this.put();
   }
 
-  // Draws the batch anew where the book has more rows than what is drawn.
-  async refresh() {
-    const { batch } = this;
-    const { rows } = await office.summary();
-    atRows(rows);
-    if (!batch || this.busy || this.stopped || rows === this.rows) return;
-    this.busy = true;
-    try {
-      await this.load(batch, rows);
-    } finally {
-      this.busy = false;
-      this.stopper.hidden = true;
+  // Shows so many packs around the cursor.
+  show(many, pressed) {
+    const wide = Math.min(many, this.packs.length);
+    const from = Math.max(0, Math.min(this.packs.length - wide, Math.round(this.at - wide / 2)));
+    this.view = [from, from + wide];
+    for (const button of this.windows.children) {
+      button.setAttribute("aria-pressed", button === pressed);
     }
+    this.draw(this.wide);
   }
 
-  async load(batch, rows) {
-    const sheet = await office.sheet(batch);
-    this.rows = rows;
-    if (sheet.refused) {
-      put(this.said, refusal(sheet.refused, sheet.kept));
-      this.place.replaceChildren();
-      return;
-    }
-    addNames("batches", [batch]);
-    const found = await settledPacks(sheet, (...at) => this.progress(...at));
-    if (batch !== this.batch) return;
-    const all = { found: found.length, readings: sheet.piles.readings };
-    put(this.said, all.found < all.readings ? say("partly", all) : inWords(sheet, found));
-    this.place.replaceChildren(...await this.draw(sheet, found));
+  // Stays where another one of the same batch was; at its end it follows the newest pack.
+  goOn(other) {
+    if (other.at < other.packs.length - 1) this.at = other.at;
+    const isAll = other.view[1] - other.view[0] === other.packs.length;
+    if (!isAll) this.view = other.view;
+    [...this.windows.children].forEach((button, at) => {
+      const isPressed = other.windows.children[at]?.getAttribute("aria-pressed") ?? "false";
+      button.setAttribute("aria-pressed", isPressed);
+    });
+    this.at = Math.max(this.view[0], Math.min(this.view[1] - 1, this.at));
   }
 
-  progress(found, readings, row) {
-    this.stopper.hidden = found >= readings;
-    if (found < readings) put(this.said, say("loading", { found, readings, row }));
-    return !this.stopped;
+  move(at) {
+    this.at = Math.max(this.view[0], Math.min(this.view[1] - 1, at));
+    this.range.value = this.at;
+    this.put();
+  }
+
+  put() {
+    const pack = this.packs[this.at];
+    const { parts, groups, chart } = this;
+    const group = groups.groups.find(({ last }) => last >= this.at) ?? groups.groups.at(-1);
+    put(parts.pack.value, count(pack.number));
+    put(parts.pack.more, say("packOf", { place: count(this.at + 1), count: count(this.packs.length) }));
+    put(parts.net.value, grams(pack.net));
+    put(parts.net.more, grams(pack.net - limitsOf(this.sheet).nominal, 3, true));
+    parts.signal.value.replaceChildren(signalTag(pack.signal));
+    put(parts.signal.more, word(pack.pile));
+    put(parts.lane.value, String(pack.lane));
+    put(parts.group.value, group ? `${grams(group.mean, 2)} · ${grams(group.s, 2)}` : "–");
+    put(parts.group.more, group?.rule ? say(`rule ${group.rule}`) : "");
+    this.range.setAttribute("aria-valuetext", say("cursorSays", { pack: pack.number,
+      net: grams(pack.net), signal: word(pack.signal), pile: word(pack.pile) }));
+    if (!chart) return;
+    const x = chart.x(this.at);
+    this.line.setAttribute("d", `M${x} ${chart.nets.top}V${chart.bottom}`);
+    this.ring.setAttribute("cx", x);
+    this.ring.setAttribute("cy", chart.up(pack.net));
   }
 }
 
-function drawChart(sheet, packs) {
-  const began = performance.now();
-  const drawn = chart(sheet, packs);
-  drawn.dataset.took = (performance.now() - began).toFixed(1);
-  const parts = [make("h2", {}, sheet.batch), heldMark(sheet.held)];
-  if (sheet.verdict) parts.push(verdictMark(sheet.verdict));
-  return [...parts, drawn, legend(), sheetFacts(sheet)];
+function keys() {
+  const key = (kind, d, words, width = 2) => make("li", {}, shape("svg",
+    { viewBox: "0 0 30 14", "aria-hidden": "true" },
+    shape("path", { class: kind, d, "stroke-width": width })), words);
+  return make("ul", { className: "keys" }, key("m-pass", "M15 7h0", word("passed"), 6),
+    key("m-reject", "M11 3l8 8m0 -8l-8 8", word("rejected")),
+    key("m-void", "M11 3h8v8h-8zm0 8l8 -8", word("voided")),
+    key("m-beyond", "M10 2h10l-5 9z", say("beyond")), key("l-mean", "M1 7H29", say("meanOf")),
+    key("l-nominal", "M1 7H29", say("nominal")), key("l-t1", "M1 7H29", "T1"),
+    key("l-t2", "M1 7H29", "T2"), key("l-event", "M15 0V14", say("tareChange")),
+    key("l-limit", "M1 7H29", say("ucl")), key("m-out", "M15 1l6 10h-12z", say("byRule")));
 }
 
-function samplePart(key, told, packs) {
-  if (!told) return [];
-  const lines = packs.map((pack) => make("li", {}, `${pack.number}: ${spellGrams(pack.gross)}`));
-  return [make("h3", {}, `${say(key)}: ${say("measured", told)}`),
-    make("p", {}, say("asWeighed")), make("ol", { className: "packs" }, lines)];
+// ---- run rules, rejects
+
+function ruleNotice({ groups, marked }) {
+  if (marked.length === 0) return [];
+  const rules = RULES.map(({ name }) => [name, marked.filter(({ rule }) => rule === name).length])
+    .filter(([, many]) => many).map(([name, many]) => `${say(`rule ${name}`)} ${count(many)}×`);
+  return [notice("warn", "warn", say("outGroups", { marked: count(marked.length),
+    all: count(groups.length), rules: rules.join(", ") }),
+  make("p", {}, say("outWhere", { from: count(marked[0].first + 1),
+    to: count(marked.at(-1).last + 1) })))];
 }
 
-function pileTable(sheet) {
-  const rows = ["readings", "passed", "rejected", "sampled", "voided"]
-    .map((pile) => [word(pile), sheet.piles[pile]]);
-  return table(say("packs"), [say("pile"), say("packs")], rows);
+function rejectTable(sheet, list) {
+  const { nominal } = limitsOf(sheet);
+  const heads = ["pack", "lane", "net", "belowBy", "signal", "pile"].map((key) => say(key));
+  const row = (pack) => [count(pack.number), String(pack.lane), grams(pack.net),
+    grams(pack.net - nominal, 3, true), signalTag(pack.signal), word(pack.pile)];
+  return table(say("rejects"), heads, list.map(row), ["right", "right", "right", "right", "", ""]);
 }
 
-async function drawSheet(sheet, packs) {
-  const drawn = await office.sample(sheet.batch);
-  const [first, second] = await Promise.all([drawn.first, drawn.second]
-    .map((numbers) => Promise.all(numbers.map((number) => packAt(number)))));
-  const printer = make("button", { type: "button" }, say("print"));
-  printer.addEventListener("click", () => print());
-  const moment = `${new Date().toLocaleDateString("sv")} ${time(Date.now())}`;
-  return [printer, make("h2", {}, `${say("batch")} ${sheet.batch}`), verdictMark(sheet.verdict),
-    make("div", { className: "beside" }, sheetFacts(sheet), pileTable(sheet)),
-    chart(sheet, packs), legend(), ...samplePart("first", sheet.first, first),
-    ...samplePart("second", sheet.second, second),
-    make("p", { className: "foot" }, say("printed", { time: moment, row: sheet.rows })),
-    facts([[say("signed"), ""]])];
+function rejectPanel(sheet, packs) {
+  const list = packs.filter(({ pile }) => pile === "rejected" || pile === "voided");
+  const place = make("div", { className: "scroll" });
+  if (list.length === 0) {
+    place.append(make("h2", {}, say("rejects")), say("noRejects"));
+    return make("section", { className: "panel" }, place);
+  }
+  place.append(rejectTable(sheet, list.slice(0, FEW)));
+  const more = make("button", { type: "button", className: "second", hidden: list.length <= FEW },
+    say("showAll", { count: count(list.length) }));
+  more.addEventListener("click", () => {
+    place.replaceChildren(rejectTable(sheet, list));
+    more.hidden = true;
+  });
+  return make("section", { className: "panel" }, place, make("p", { className: "more" }, more));
 }
 
-export const chartPage = new BatchPage("chart", drawChart);
-export const sheetPage = new BatchPage("sheet", drawSheet);
+function causePanel(packs) {
+  const causes = causesOf(packs);
+  const most = Math.max(1, ...causes.map(([, many]) => many));
+  const name = (cause) => (cause === "stayed" ? say("stayed") : word(cause));
+  return make("section", { className: "panel" }, make("h2", {}, say("perReason")),
+    make("ul", { className: "reasons" }, causes.map(([cause, many]) => make("li", {},
+      make("span", {}, name(cause)), make("strong", {}, count(many)), meter(many, most)))));
+}
+
+// ---- the page
+
+// The cursor that was drawn last, with which a batch that grows goes on.
+let last = null;
+
+function draw(place, sheet, packs) {
+  const head = [titleOf(sheet), make("div", { className: "panel" }, headFacts(sheet, packs))];
+  if (packs.length === 0) {
+    place.replaceChildren(...head, notice("", "idle", say("noPacksText")));
+    return;
+  }
+  const cursor = new Cursor(sheet, packs);
+  const isFocused = document.activeElement === last?.range;
+  if (last?.sheet.batch === sheet.batch) cursor.goOn(last);
+  last = cursor;
+  place.replaceChildren(...head, cursor.whole, ...ruleNotice(cursor.groups),
+    make("div", { className: "two" }, rejectPanel(sheet, packs), causePanel(packs)));
+  if (isFocused) cursor.range.focus();
+}
+
+const page = new BatchPage("batch", draw);
+
+export async function build(section) {
+  await loadStyles("figures.css", "batch.css");
+  page.build(section);
+}
+
+export const show = (batch) => page.show(batch);
+export const refresh = () => page.refresh();

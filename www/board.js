@@ -1,186 +1,372 @@
-// The board: what each lane weighs, how each batch stands, and the balance. It asks for rows that
-// are new, and for lanes and batches that these may have changed.
+// The board for a wall: a strip for each batch with its lanes, and above them what needs a person.
+// The parts are made once for a set of batches and lanes; afterwards only texts and figures are put
+// anew, so that nothing moves.
 
-import * as office from "./office.js";
-import { LANES, atRows, packAt, packs, packsFrom } from "./follow.js";
+import { addWords, say, word } from "./words.js";
+import { AlarmBar, alarmsOf, idleWords, isNear, isSoonFull, laneWords } from "./alarms.js";
+import { Hall, LAST_PACKS, packAt, packs } from "./follow.js";
+import { MOST_PACKS, MOST_ROWS, limitsOf } from "./rules.js";
+import { count, duration, grams, quantity } from "./numbers.js";
+import { icon, loadStyles, make, meter, put, shape, whenSized } from "./page.js";
+import { keepText, readText } from "./store.js";
+import { lanes as askPlan, list as askList } from "./office.js";
 import { addNames } from "./names.js";
-import { heldMark, make, sheetFacts, table, verdictMark } from "./page.js";
-import { say, signal, word } from "./words.js";
-import { spellGrams } from "./grams.js";
+import { forecastOf } from "./forecast.js";
+import { forecastWords } from "./forecastwords.js";
+import { settings } from "./settings.js";
+import { spark } from "./spark.js";
 
-const FIRST_ROWS = 60;
-const MOST_ROWS = 1_000;
-const LAST_PACKS = 6;
-const MOST_BATCHES = 8;
-const MINUTE = 60_000;
-// A view that is taken for a wall, here and in board.css; a smaller one may scroll.
-const wall = matchMedia("(min-width: 64rem) and (min-height: 32rem)");
-// The letters of the board in parts of the width of a wall: they shrink until all is seen.
-const LARGEST = 0.013;
-const SMALLEST = 0.003;
-const SHRINK = 0.96;
-// So many batches stand as cards; more of them stand as strips, one below the other.
-const MOST_CARDS = 3;
+addWords({
+  allowanceOf: ["Non-standard", "Untermaß"],
+  packsOf: ["{count} / {most}", "{count} / {most}"],
+  fullIn: ["full in {time}", "voll in {time}"],
+  aboveEach: ["Average", "Durchschnitt"],
+  aMinute: ["/min", "/min"],
+  silentShort: ["no pack", "keine"],
+  idleShort: ["idle", "steht"],
+  fullShort: ["book full", "Buch voll"],
+  rowsLeft: ["{left} rows left", "noch {left} Zeilen"],
+  rowsAtMost: ["at most {left} rows left", "höchstens noch {left} Zeilen"],
+  forecastNote: ["Forecast: the three checks of all packs, as the verdict would be now.",
+    "Vorschau: die drei Prüfungen aller Packungen, wie das Urteil jetzt wäre."],
+  someShown: ["Lanes are fast: about 1 of {apart} packs is drawn.",
+    "Schnelle Linien: etwa 1 von {apart} Packungen ist gezeichnet."],
+  emptyBoard: ["No lane has a batch. Open a batch at a desk and give it a lane in the plan; it then "
+    + "stands here.",
+  "Keine Linie hat eine Charge. Am Platz eine Charge eröffnen und ihr im Plan eine Linie geben; "
+    + "dann steht sie hier."],
+  spoken: ["{lane}, {batch}: {signal}, {net} g, {rate} a minute",
+    "{lane}, {batch}: {signal}, {net} g, {rate} je Minute"],
+  soundOn: ["Sound is on", "Ton ist an"],
+  soundOff: ["Sound is off", "Ton ist aus"],
+});
 
-const lanes = new Map();
-const sheets = new Map();
-let seen = 0;
+// How often the files beside the pages are asked for anew, in milliseconds.
+const FILES_EVERY = 10_000;
+
+const hall = new Hall();
+const files = { at: 0, plan: { lanes: [], left: null, isFull: false }, left: null, rows: 0 };
+const parts = { batches: new Map(), lanes: new Map(), built: "" };
 let place;
-// For how many cards, and for which view, the letters were sized.
-let sized = "";
 
-export function build(section) {
-  const part = (name) => make("div", { className: name });
-  place = { section, lanes: part("cards lanes"), batches: part("cards batches"),
-    balance: part("balance") };
-  const head = (key) => make("h2", {}, say(key));
-  section.append(head("batches"), place.batches, head("lanes"), place.lanes, head("balance"),
-    place.balance);
-  const style = make("link", { rel: "stylesheet", href: "board.css" });
-  style.addEventListener("load", fit);
-  document.head.append(style);
-  addEventListener("resize", fit);
-}
+// ---- what there is to show
 
-// Sizes the letters so that all is seen, since a wall can't scroll. They grow again only for
-// another number of cards or another view, so that nothing jumps.
-function fit() {
-  const { section, lanes, batches } = place;
-  if (!wall.matches) {
-    section.style.fontSize = sized = "";
-    return;
+// The batches on lanes, in the order of the lanes; a lane that stopped keeps its last one.
+function batchesShown() {
+  const byNumber = [...hall.lanes.values()].sort((one, other) => one.number - other.number);
+  const shown = new Map();
+  for (const lane of byNumber) {
+    const last = lane.batch ?? packs.get(lane.packs.at(-1))?.batch ?? lane.planned;
+    const sheet = hall.sheets.get(last);
+    if (sheet) shown.set(last, [...shown.get(last) ?? [], lane]);
   }
-  const wanted = [lanes.children.length, batches.children.length, innerWidth, innerHeight].join();
-  if (wanted !== sized) section.style.fontSize = `${LARGEST * innerWidth}px`;
-  sized = wanted;
-  batches.classList.toggle("strips", batches.children.length > MOST_CARDS);
-  const least = SMALLEST * innerWidth;
-  const size = () => parseFloat(section.style.fontSize);
-  while (section.scrollHeight > section.clientHeight && size() > least) {
-    section.style.fontSize = `${size() * SHRINK}px`;
+  return shown;
+}
+
+function viewOf(sheet) {
+  const forecast = forecastOf(sheet, settings.country.share || null);
+  const rate = hall.rateOfBatch(sheet.batch);
+  const minutes = rate ? forecast.left / rate : Infinity;
+  return { sheet, forecast, minutes, pack: hall.holding?.get(sheet.batch) };
+}
+
+function laneState(lane) {
+  const planned = files.plan.lanes.find(({ number }) => number === lane.number);
+  return { number: lane.number, batch: lane.batch ?? planned?.batch,
+    silence: (Date.now() - lane.at) / 1000, idle: planned ? idleWords(planned.state) : "" };
+}
+
+// Rows left: as the files say less what was weighed since; without them as many as a book may have.
+function leftOf(rows) {
+  const { plan, left } = files;
+  const since = rows - files.rows;
+  if (left !== null) return { left: Math.max(0, left - since), isSure: true, isFull: plan.isFull };
+  return { left: plan.left ?? MOST_ROWS - rows, isSure: plan.left !== null, isFull: plan.isFull };
+}
+
+async function askFiles(rows) {
+  if (Date.now() - files.at < FILES_EVERY) return;
+  files.at = Date.now();
+  const [plan, list] = await Promise.all([askPlan(), askList()]);
+  Object.assign(files, { plan, left: list.left, rows: list.rows ?? rows });
+}
+
+// The inadequate pack that holds a batch, where it is among the last ones of a lane.
+async function askHolding(shown) {
+  hall.holding = new Map();
+  for (const [batch, lanes] of shown) {
+    if (!hall.sheets.get(batch).held) continue;
+    const found = lanes.flatMap((lane) => lane.packs).map((number) => packs.get(number))
+      .filter((pack) => pack?.class === "inadequate" && pack.batch === batch
+        && pack.signal === "pass");
+    for (const { number } of found) {
+      const pack = await packAt(number, true);
+      if (["passed", "sampled"].includes(pack.pile)) hall.holding.set(batch, number);
+    }
   }
 }
 
-// Takes the packs of new rows to their lanes. Says which batches they are of.
-function takePacks(found, isFirst) {
-  const touched = new Set();
-  for (const pack of found) {
-    const lane = lanes.get(pack.lane) ?? { batch: pack.batch, packs: [], times: [] };
-    lanes.set(pack.lane, lane);
-    lane.packs = [pack.number, ...lane.packs].slice(0, LAST_PACKS);
-    if (pack.signal !== "pass") lane.rejected = pack.number;
-    if (!isFirst) lane.times.push(Date.now());
-    touched.add(pack.batch);
+// ---- the parts
+
+function makeMeter(name, sign = "") {
+  const part = { name: make("dt"), value: make("dd"), row: make("div") };
+  put(part.name, name);
+  part.row.append(part.name, sign ? make("dd", { className: "b-clock" }, icon(sign)) : "",
+    part.value);
+  return part;
+}
+
+// Names have up to 32 letters: the longer ones are smaller.
+const lengthOf = (name) => (name.length > 22 ? 2 : name.length > 13 ? 1 : 0);
+
+function makeStrip(sheet) {
+  const part = { sign: make("span"), word: make("strong"), more: make("span"),
+    says: make("div", { className: "b-says" }), allowance: makeMeter(say("allowanceOf")),
+    country: makeMeter(settings.country.name), packs: makeMeter("", "clock"),
+    above: makeMeter(say("aboveEach")), lanes: make("div", { className: "b-lanes" }) };
+  part.says.append(part.sign, make("div", {}, part.word, part.more));
+  const goods = `${sheet.product} · ${quantity(sheet.quantity)} ${sheet.unit}`;
+  const meters = [part.allowance, ...settings.country.share ? [part.country] : [], part.packs,
+    part.above].map(({ row }) => row);
+  const block = make("div", { className: "b-batch" },
+    make("h2", { className: "b-name", "data-long": lengthOf(sheet.batch) },
+      make("a", { href: `#batch/${sheet.batch}` }, sheet.batch)),
+    make("p", { className: "b-goods" }, goods), part.says,
+    make("dl", { className: "b-meters" }, meters));
+  part.strip = make("article", { className: "strip" }, make("div", {}, block, part.lanes));
+  parts.batches.set(sheet.batch, part);
+  return part;
+}
+
+function makeLane(lane, sheet) {
+  const part = { lane, limits: limitsOf(sheet), signal: make("span"), net: make("span"),
+    rate: make("strong"), spark: make("div", { className: "w-spark sized" }), drawn: "" };
+  part.net.className = "w-net";
+  part.spoken = make("span", { className: "unseen" });
+  part.cell = make("section", { className: "w-lane", "aria-label": laneWords(lane.number) },
+    make("div", {}, part.spoken,
+      make("h3", { className: "w-no", "aria-hidden": "true" }, String(lane.number)), part.signal,
+      part.spark, part.net,
+      make("span", { className: "w-rate" }, part.rate, make("small", {}, ` ${say("aMinute")}`))));
+  parts.lanes.set(lane.number, part);
+  whenSized(part.spark, (wide, high) => {
+    part.size = [wide, high];
+    putSpark(part);
+  });
+  return part.cell;
+}
+
+function formOf(batches) {
+  if (batches <= 2) return String(batches);
+  if (batches <= 4) return "3";
+  return batches <= 8 ? "dense" : "packed";
+}
+
+// Lanes lie below one another as long as their rows are high enough, so that what they weighed has
+// the whole width; only then beside one another.
+function columns(form, lanes) {
+  const rows = { 1: 6, 2: 3, 3: 3, dense: 3, packed: 1 }[form];
+  return Math.min(4, Math.ceil(lanes / rows));
+}
+
+function buildStrips(shown) {
+  const now = JSON.stringify([...shown].map(([batch, lanes]) =>
+    [batch, lanes.map(({ number }) => number)]));
+  if (now === parts.built) return;
+  parts.built = now;
+  parts.batches.clear();
+  parts.lanes.clear();
+  const form = shown.size ? formOf(shown.size) : "none";
+  place.section.dataset.form = form;
+  const isTwo = form === "dense" || form === "packed";
+  place.strips.dataset.rows = isTwo ? Math.ceil(shown.size / 2) : Math.max(1, shown.size);
+  const strips = [...shown].map(([batch, lanes]) => {
+    const part = makeStrip(hall.sheets.get(batch));
+    part.lanes.dataset.cols = columns(form, lanes.length);
+    part.lanes.append(...lanes.map((lane) => makeLane(lane, hall.sheets.get(batch))));
+    return part.strip;
+  });
+  const none = [make("p", { className: "none-yet" }, say("emptyBoard"))];
+  place.strips.replaceChildren(...(strips.length ? strips : none));
+}
+
+// ---- texts and figures
+
+function putMeter(part, kind, value, used, whole) {
+  part.row.className = kind;
+  put(part.value, value);
+  part.row.querySelector(".meter")?.remove();
+  if (whole !== null) part.row.append(meter(used, whole, kind));
+}
+
+function levelOf({ sheet, forecast, minutes }) {
+  if (sheet.verdict) return "";
+  if (["held", "fail"].includes(forecast.kind)) return "alarm";
+  if (forecast.kind === "edge") return "warn";
+  const isLow = isNear(sheet, forecast) || isSoonFull(sheet, minutes);
+  return forecast.kind === "ok" && isLow ? "warn" : "";
+}
+
+// What stands in large: the verdict of a closed batch, else the forecast.
+function saysOf({ sheet, forecast }) {
+  if (!sheet.verdict) return forecastWords(forecast, sheet);
+  const [first, ...reasons] = sheet.verdict.split(" ");
+  const why = reasons.map(word).join(", ");
+  if (first === "withheld") return ["fail", "reject", word(first), why];
+  return [first === "released" ? "ok" : "early", "pass", word(first), why];
+}
+
+function putBatch(view) {
+  const { sheet, forecast, minutes } = view;
+  const part = parts.batches.get(sheet.batch);
+  const [kind, sign, told, more] = saysOf(view);
+  part.strip.className = `strip ${levelOf(view)}`;
+  part.says.className = `b-says ${kind}`;
+  if (part.sign.dataset.sign !== sign) part.sign.replaceChildren(icon(sign));
+  part.sign.dataset.sign = sign;
+  put(part.word, told);
+  put(part.more, more);
+  const isPlanned = forecast.kind !== "early" && forecast.kind !== "empty";
+  const used = forecast.over > 1 ? "alarm"
+    : forecast.over === 1 || (isPlanned && isNear(sheet, forecast)) ? "warn" : "";
+  putMeter(part.allowance, used, say("ofAllowed", { used: count(sheet.nonstandard),
+    allowed: count(forecast.allowed) }), sheet.nonstandard, forecast.allowed);
+  if (forecast.country) putCountry(part.country, forecast.country, isPlanned);
+  const time = Number.isFinite(minutes) ? duration(minutes) : "–";
+  putMeter(part.packs, isSoonFull(sheet, minutes) ? "warn" : "", time, sheet.population, MOST_PACKS);
+  put(part.packs.name, say("packsOf", { count: count(sheet.population), most: count(MOST_PACKS) }));
+  part.packs.row.title = say("fullIn", { time });
+  const { above } = forecast.average;
+  const isShort = forecast.fails.includes("average") && isPlanned;
+  putMeter(part.above, isShort ? "alarm" : "", `${grams(above, 2, true)} g`, 0, null);
+}
+
+function putCountry(part, { used, allowed, isOver }, isPlanned) {
+  putMeter(part, isOver && isPlanned ? "warn" : "",
+    say("ofAllowed", { used: count(used), allowed: count(allowed) }), used, allowed);
+}
+
+function signalOf(lane, state) {
+  if (state.idle) return ["warn", "idle", say("idleShort")];
+  if (!lane.batch) return ["idle", "idle", say("idleShort")];
+  const last = packs.get(lane.packs.at(-1));
+  if (!last || state.silence > settings.alarms.silence) {
+    return ["warn", "idle", last ? say("silentShort") : say("idleShort")];
   }
-  return touched;
+  if (last.signal === "pass") return ["", "pass", word("pass")];
+  return [last.signal === "reject held" ? "held" : "reject", "reject", word(last.signal)];
 }
 
-async function askLanes() {
-  const numbers = Array.from({ length: LANES }, (_, at) => at + 1);
-  for (const { number, batch } of await Promise.all(numbers.map(office.lane))) {
-    const lane = lanes.get(number) ?? { packs: [], times: [] };
-    if (batch || lanes.has(number)) lanes.set(number, { ...lane, batch });
+function putSpark(part) {
+  if (!part.size) return;
+  const shown = part.lane.packs.map((number) => packs.get(number)).filter((pack) => pack);
+  const now = `${part.size} ${shown.length} ${shown.at(-1)?.number} ${shown.at(-1)?.net}`;
+  if (now === part.drawn) return;
+  part.drawn = now;
+  spark(part.spark, shown.slice(-LAST_PACKS), part.limits, ...part.size);
+}
+
+function putLane(lane) {
+  const part = parts.lanes.get(lane.number);
+  if (!part) return;
+  part.lane = lane;
+  const state = laneState(lane);
+  const [kind, sign, told] = signalOf(lane, state);
+  part.signal.className = `w-signal ${kind}`;
+  if (part.signal.dataset.told !== sign + told) {
+    part.signal.replaceChildren(icon(sign), make("span", {}, told));
   }
+  part.signal.dataset.told = sign + told;
+  const last = packs.get(lane.packs.at(-1));
+  const net = last ? grams(last.net, 1) : "–";
+  put(part.net, last ? `${net} g` : "–");
+  const rate = hall.rateOf(lane);
+  put(part.rate, rate === null ? "–" : count(rate));
+  put(part.spoken, say("spoken", { lane: laneWords(lane.number), batch: state.batch ?? "",
+    signal: told, net, rate: rate === null ? "–" : count(rate) }));
+  putSpark(part);
 }
 
-// A tare may have changed the nets of the packs that are shown.
-async function askShownPacks() {
-  const shown = [...lanes.values()].flatMap((lane) => [...lane.packs, lane.rejected ?? []].flat());
-  await Promise.all(shown.map((number) => packAt(number, true)));
+function putFoot({ left, isSure }, rows) {
+  put(place.left, say(isSure ? "rowsLeft" : "rowsAtMost", { left: count(left) }));
+  const isLow = left < settings.alarms.rows;
+  place.rows.className = `left ${isLow ? "warn" : ""}`;
+  place.rows.querySelector(".meter")?.remove();
+  place.rows.append(meter(rows, rows + left, isLow ? "warn" : ""));
+  const apart = Math.round(hall.apart);
+  put(place.note, apart > 1 ? say("someShown", { apart }) : say("forecastNote"));
 }
 
-async function askSheets(batches) {
-  for (const sheet of await Promise.all([...batches].map(office.sheet))) {
-    if (!sheet.refused) sheets.set(sheet.batch, sheet);
-  }
-  const running = [...lanes.values()].map((lane) => lane.batch);
-  const old = [...sheets.keys()].filter((batch) => !running.includes(batch));
-  for (const batch of old.slice(0, Math.max(0, sheets.size - MOST_BATCHES))) sheets.delete(batch);
+// ---- the page
+
+const isSounding = () => (readText("hall.sound") ?? String(settings.alarms.sound)) === "true";
+
+function soundButton() {
+  const button = make("button", { type: "button", className: "second" });
+  const show = () => {
+    const isOn = isSounding();
+    button.setAttribute("aria-pressed", isOn);
+    button.replaceChildren(icon(isOn ? "sound" : "silent"), say(isOn ? "soundOn" : "soundOff"));
+  };
+  button.addEventListener("click", () => {
+    keepText("hall.sound", String(!isSounding()));
+    show();
+  });
+  show();
+  return button;
 }
 
-export async function refresh() {
-  const summary = await office.summary();
-  if (summary.rows < seen) forget();
-  atRows(summary.rows);
-  if (summary.rows > seen) await takeRows(summary.rows);
-  draw(summary);
+function legend() {
+  const key = (kind, d, words) => make("span", {}, shape("svg",
+    { viewBox: "0 0 24 10", "aria-hidden": "true" }, shape("path", { class: kind, d })), words);
+  return make("span", { className: "keys" }, key("l-nominal", "M0 5H24", say("nominal")),
+    key("l-t1", "M0 5H24", "T1"), key("l-t2", "M0 5H24", "T2"),
+    key("m-reject", "M8 1l8 8m0 -8l-8 8", word("rejected")));
 }
 
-function forget() {
-  seen = 0;
-  lanes.clear();
-  sheets.clear();
+export async function build(section) {
+  await loadStyles("figures.css", "forecast.css", "board.css");
+  const spoken = make("p", { className: "unseen", role: "alert" });
+  place = { section, strips: make("div", { className: "strips" }), left: make("span"),
+    rows: make("span", { className: "left" }), note: make("span", { className: "note" }),
+    alarms: make("ol", { className: "alarms" }) };
+  place.rows.append(place.left);
+  place.strips.append(make("p", { className: "none-yet" }, say("loading")));
+  place.bar = new AlarmBar(place.alarms, spoken);
+  section.append(make("h1", { className: "unseen" }, say("board")),
+    make("div", {}, place.alarms, spoken), place.strips, make("footer", { className: "foot" },
+      legend(), place.note, place.rows, soundButton()));
 }
 
-async function takeRows(rows) {
-  const isFirst = seen === 0;
-  const most = isFirst ? FIRST_ROWS : MOST_ROWS;
-  const first = Math.max(seen + 1, rows - most + 1);
-  const found = await packsFrom(first, rows);
-  const touched = takePacks(found.filter((pack) => pack), isFirst);
-  const others = found.some((pack) => !pack) || first > seen + 1;
-  if (others) {
-    await Promise.all([askLanes(), askShownPacks()]);
-    const known = [...lanes.values()].map((lane) => lane.batch).filter((batch) => batch);
-    for (const batch of [...known, ...sheets.keys()]) touched.add(batch);
-    addNames("batches", known);
-  }
-  await askSheets(touched);
-  seen = rows;
+let underWay = null;
+
+export function refresh() {
+  underWay ??= drawNew().finally(() => { underWay = null; });
+  return underWay;
 }
 
-function lastReject(number) {
-  const pack = packs.get(number);
-  const told = () => say("lastReject", { pack: number, net: spellGrams(pack.net),
-    signal: signal(pack.signal) });
-  return make("p", { className: "reject" }, pack ? told() : "");
+async function drawNew() {
+  const { rows } = await hall.refresh();
+  await askFiles(rows);
+  await askPlanned();
+  const shown = batchesShown();
+  await askHolding(shown);
+  addNames("batches", [...shown.keys()]);
+  buildStrips(shown);
+  const views = [...shown.keys()].map((batch) => viewOf(hall.sheets.get(batch)));
+  views.forEach(putBatch);
+  [...hall.lanes.values()].forEach(putLane);
+  const book = leftOf(rows);
+  putFoot(book, rows);
+  const lanes = [...hall.lanes.values()].map(laneState);
+  place.bar.draw(alarmsOf({ book, batches: views, lanes }), isSounding());
 }
 
-// A signal as its sign and its last word, which has room in one line.
-function inShort(told) {
-  return signal(told).replace(/ .* /, " ");
+// A lane of the plan that stands without ever having weighed is shown too.
+async function askPlanned() {
+  for (const { number, batch } of files.plan.lanes) hall.laneOf(number).planned = batch;
+  const wanted = files.plan.lanes.map(({ batch }) => batch);
+  await hall.askSheets(new Set(wanted.filter((batch) => !hall.sheets.has(batch))));
 }
 
-function laneCard([number, lane]) {
-  lane.times = lane.times.filter((moment) => Date.now() - moment < MINUTE);
-  const shown = lane.packs.map((pack) => packs.get(pack));
-  const rows = shown.map((pack) => [pack.number, spellGrams(pack.net), inShort(pack.signal)]);
-  const minute = say("aMinute", { count: lane.times.length });
-  return make("article", { className: "lane" },
-    make("h3", {}, `${say("lane", { lane: number })}: ${lane.batch ?? say("idle")}`),
-    make("p", {}, minute), lastReject(lane.rejected),
-    table(say("packs"), [say("pack"), say("net"), say("signal")], rows));
-}
-
-function batchCard(sheet) {
-  return make("article", { className: "batch" },
-    make("h3", {}, make("a", { href: `#chart/${sheet.batch}` }, sheet.batch)),
-    heldMark(sheet.held), sheetFacts(sheet), sheet.verdict ? verdictMark(sheet.verdict) : []);
-}
-
-function draw(summary) {
-  const byNumber = [...lanes].sort(([one], [other]) => one - other);
-  const laneCards = byNumber.map(laneCard);
-  place.lanes.replaceChildren(...(laneCards.length ? laneCards : [say("noLanes")]));
-  const batchCards = [...sheets.values()].map(batchCard);
-  redraw(place.batches, batchCards.length ? batchCards : [say("noBatches")]);
-  redraw(place.balance, balance(summary));
-  fit();
-}
-
-function balance({ rows, piles, states }) {
-  const counts = states.map(([name, count]) => `${count} ${word(name)}`).join(", ");
-  const heads = [say("pile"), ...piles.map((pile) => word(pile.word))];
-  return [
-    table(`${say("balance")}: ${rows} ${say("rows")}`, heads, [
-      [say("packs"), ...piles.map((pile) => pile.count)],
-      [say("gross"), ...piles.map((pile) => spellGrams(pile.gross))]]),
-    make("p", {}, `${say("batches")}: ${counts}`)];
-}
-
-// Draws anew what differs, so that a link keeps its focus.
-function redraw(where, parts) {
-  const now = make("div", {}, parts);
-  if (now.innerHTML !== where.innerHTML) where.replaceChildren(...parts);
-}
-
+export const show = refresh;

@@ -1,180 +1,205 @@
-// The control chart and the histogram of a batch, drawn as SVG. Shapes and words tell what colours
-// tell, and packs of a kind are one path, so that ten thousand of them are drawn at once.
+// Draws the control chart of a batch: nets one by one with their mean of 30, x-bar and s of
+// subgroups with their limits, and the histogram, by one scale across. Shapes and words tell what
+// colours tell; packs of a kind are one path, so that ten thousand of them are drawn at once.
 
-import { say, word } from "./words.js";
-import { spellGrams } from "./grams.js";
+import { addWords, say } from "./words.js";
+import { count, grams } from "./numbers.js";
+import { histogram, isCounted, markRules, meanAndS, runningMeans, subgroups, tareChanges } from
+  "./control.js";
+import { limitsOf } from "./rules.js";
+import { shape } from "./page.js";
 
-const WIDTH = 1000;
-const HEIGHT = 400;
-const PLOT = { left: 58, right: 742, top: 14, bottom: 356 };
-const BARS = { left: 812, right: 990 };
-const MEAN_OF = 30;
-const STEPS = 24;
-
-// The mark of a pack at a place, by the pile in which it lies.
-const MARKS = {
-  passed: (x, y) => `M${x - 2} ${y}a2 2 0 1 0 4 0a2 2 0 1 0 -4 0`,
-  sampled: (x, y) => `M${x} ${y - 3.5}l3.5 3.5l-3.5 3.5l-3.5 -3.5z`,
-  rejected: (x, y) => `M${x - 4} ${y - 4}l8 8m0 -8l-8 8`,
-  voided: (x, y) => `M${x - 4} ${y - 4}h8v8h-8zm0 8l8 -8`,
-  beyond: (x, y) => `M${x - 5} ${y - 4}h10l-5 8z`,
-};
-export const KINDS = Object.keys(MARKS);
-
-export function element(name, attributes = {}, ...children) {
-  const made = document.createElementNS("http://www.w3.org/2000/svg", name);
-  for (const [key, value] of Object.entries(attributes)) made.setAttribute(key, value);
-  made.append(...children);
-  return made;
-}
+addWords({
+  individuals: ["Net of each pack, g", "Netto jeder Packung, g"],
+  byNet: ["Packs by net", "Nach Netto"],
+  xbar: ["x̄ of {size} packs, g", "x̄ von {size} Packungen, g"],
+  spread: ["s of {size} packs, g", "s von {size} Packungen, g"],
+  tareFrom: ["tare {tare} g", "Tara {tare} g"],
+  chartTitle: ["Nets of batch {batch} in order of weighing", "Nettos der Charge {batch}, wie gewogen"],
+  chartSays: ["{count} packs that count, mean {mean} g, s {s} g, {rejected} rejected",
+    "{count} Packungen, die zählen, Mittel {mean} g, s {s} g, {rejected} ausgeschleust"],
+  centre: ["mean", "Mittel"],
+});
 
 const round = (number) => Math.round(number * 10) / 10;
 
-// The nets between which the chart is drawn: three errors around the nominal quantity at most, so
-// that one impossible weight doesn't press all others into a line.
-function rangeOf(sheet, packs) {
-  const far = 3 * sheet.error;
-  const within = packs.map((pack) => pack.net - sheet.nominal)
-    .filter((off) => Math.abs(off) <= far);
-  const low = Math.min(-2.3 * sheet.error, ...bounds(within));
-  const high = Math.max(0.8 * sheet.error, ...bounds(within));
-  return { low: sheet.nominal + 1.04 * low, high: sheet.nominal + 1.04 * high };
-}
+const SHAPES = {
+  reject: (x, y) => `M${x - 4} ${y - 4}l8 8m0 -8l-8 8`,
+  void: (x, y) => `M${x - 4} ${y - 4}h8v8h-8zm0 8l8 -8`,
+  sample: (x, y) => `M${x} ${y - 4}l4 4l-4 4l-4 -4z`,
+  beyond: (x, y) => `M${x - 5} ${y - 5}h10l-5 9z`,
+  above: (x, y) => `M${x - 4} ${y + 3}h8l-4 -7z`,
+  out: (x, y) => `M${x} ${y - 6}l6 10h-12z`,
+};
 
-function bounds(numbers) {
-  const fold = (pick) => numbers.reduce((kept, number) => pick(kept, number), 0);
-  return [fold(Math.min), fold(Math.max)];
-}
+const mark = (kind, points) => (points.length === 0 ? [] : [shape("path", { class: `m-${kind}`,
+  d: points.map(([x, y]) => SHAPES[kind](x, y)).join("") })]);
+const text = (x, y, words, kind = "", anchor = "start") =>
+  shape("text", { x, y, class: kind, "text-anchor": anchor }, words);
+const dots = (points, width, opacity = 1) => shape("path", { class: "m-pass", "stroke-width": width,
+  "stroke-opacity": opacity, d: points.map(([x, y]) => `M${x} ${y}h0`).join("") });
+const across = (kind, left, right, y) => shape("path", { class: kind, d: `M${left} ${y}H${right}` });
 
-function scales(packs, range) {
-  const wide = (PLOT.right - PLOT.left) / Math.max(1, packs.length);
-  const tall = (PLOT.bottom - PLOT.top) / (range.high - range.low);
-  const held = (net) => Math.max(range.low, Math.min(range.high, net));
+// A part of the figure: its scale up, and its frame.
+function panel(box, low, high) {
+  const held = (value) => Math.max(low, Math.min(high, value));
   return {
-    across: (place) => round(PLOT.left + (place + 0.5) * wide),
-    up: (net) => round(PLOT.bottom - (held(net) - range.low) * tall),
-    isBeyond: (net) => net !== held(net),
+    up: (value) => round(box.bottom - (held(value) - low) / (high - low) * (box.bottom - box.top)),
+    frame: shape("path", { class: "axis", d: `M${box.left} ${box.top}V${box.bottom}H${box.right}` }),
   };
 }
 
-const isCounted = (pack) => pack.pile === "passed" || pack.pile === "sampled";
-
-// The means of the last 30 packs that count, at each of these.
-export function lastMeans(packs) {
-  const means = [];
-  const last = [];
-  let sum = 0;
-  packs.forEach((pack, place) => {
-    if (!isCounted(pack)) return;
-    last.push(pack.net);
-    sum += pack.net;
-    if (last.length > MEAN_OF) sum -= last.shift();
-    if (last.length === MEAN_OF) means.push([place, sum / MEAN_OF]);
-  });
-  return means;
+// Whole numbers for an axis, about as many as wanted.
+function steps(low, high, wanted) {
+  const rough = Math.max(1, (high - low) / wanted);
+  const power = 10 ** Math.floor(Math.log10(rough));
+  const step = [1, 2, 5, 10].map((part) => part * power).find((part) => part >= rough);
+  const first = Math.ceil(low / step) * step;
+  return Array.from({ length: Math.floor((high - first) / step) + 1 }, (_, at) => first + at * step);
 }
 
-function markPaths(packs, scale) {
-  const paths = Object.fromEntries(KINDS.map((kind) => [kind, []]));
-  packs.forEach((pack, place) => {
-    const kind = scale.isBeyond(pack.net) ? "beyond" : pack.pile;
-    paths[kind].push(MARKS[kind](scale.across(place), scale.up(pack.net)));
-  });
-  return KINDS.filter((kind) => paths[kind].length > 0)
-    .map((kind) => element("path", { class: `mark ${kind}`, d: paths[kind].join("") }));
+// Where everything lies, for a figure of this size.
+function frameOf({ sheet, packs, view: [from, to], wide, isOnly }) {
+  const limits = limitsOf(sheet);
+  const bars = isOnly ? 84 : Math.min(190, wide * .16);
+  const high = isOnly ? 300 : 620;
+  const [left, right] = [64, wide - bars - 62];
+  const counted = packs.filter(isCounted).map(({ net }) => net);
+  const { mean, s } = counted.length ? meanAndS(counted) : { mean: limits.nominal, s: 0 };
+  // the scale holds what is usual, and is that of the whole batch
+  const low = limits.t2 - .5 * limits.error;
+  const top = Math.max(limits.nominal + 1.2 * limits.error, mean + 4 * s);
+  const nets = { left, right, top: 34, bottom: isOnly ? high - 40 : high * .52 };
+  return { limits, bars, high, left, right, nets, low, top, ...panel(nets, low, top),
+    bottom: isOnly ? nets.bottom : high - 46, end: right + bars + 18,
+    x: (place) => round(left + (place - from + .5) / Math.max(1, to - from) * (right - left)) };
 }
 
-// The nominal quantity and the limits: a line of its own kind each, with its name and its grams.
-function limitLines(sheet, scale) {
-  const limits = [
-    ["nominal", say("nominal"), sheet.nominal],
-    ["t1", "T1", sheet.nominal - sheet.error],
-    ["t2", "T2", sheet.nominal - 2 * sheet.error],
-  ];
-  return limits.flatMap(([kind, name, net]) => {
-    const y = scale.up(net);
-    return [
-      element("path", { class: `limit ${kind}`, d: `M${PLOT.left} ${y}H${BARS.right}` }),
-      element("text", { class: "name", x: PLOT.right + 6, y: y - 4 }, name),
-      element("text", { class: "grams", x: PLOT.left - 5, y: y + 4 }, spellGrams(net)),
-    ];
-  });
+function limitLines({ limits, left, end, up }) {
+  const line = ([kind, name, net]) => [across(`l-${kind}`, left, end, up(net)),
+    text(left - 8, up(net) + 4, grams(net, 1), "strong", "end"),
+    text(end + 5, up(net) + 4, name, "strong")];
+  return [["nominal", "Qn", limits.nominal], ["t1", "T1", limits.t1], ["t2", "T2", limits.t2]]
+    .map(line);
 }
 
-function meanLine(packs, scale) {
-  const points = lastMeans(packs).map(([place, net]) => `${scale.across(place)} ${scale.up(net)}`);
-  return points.length < 2 ? [] : [element("path", { class: "means", d: `M${points.join("L")}` })];
-}
-
-// The numbers of some packs below the chart, at most eight.
-function packNumbers(packs, scale) {
-  const apart = Math.max(1, Math.ceil(packs.length / 8));
-  return packs.flatMap((pack, place) => (place % apart ? [] : [
-    element("path", { class: "axis", d: `M${scale.across(place)} ${PLOT.bottom}v5` }),
-    element("text", { class: "number", x: scale.across(place), y: PLOT.bottom + 20 }, pack.number),
-  ]));
-}
-
-// Packs that count by their net: bars that lie beside the chart, by the same scale.
-function histogram(packs, range, scale) {
-  const counts = Array(STEPS).fill(0);
-  const step = (range.high - range.low) / STEPS;
-  for (const pack of packs) {
-    const place = Math.floor((pack.net - range.low) / step);
-    if (isCounted(pack)) counts[Math.max(0, Math.min(STEPS - 1, place))] += 1;
-  }
-  const most = Math.max(1, ...counts);
-  const bars = counts.map((count, place) => {
-    if (count === 0) return "";
-    const [low, high] = [range.low + place * step, range.low + (place + 1) * step].map(scale.up);
-    const width = round(count / most * (BARS.right - BARS.left));
-    return `M${BARS.left} ${low - 1}h${width}V${high}h-${width}z`;
-  });
+function packMarks(shown, { up, x, low, top, nets }, isOnly) {
+  const isIn = ({ net }) => net >= low && net <= top;
+  const at = (pack) => [x(pack.place), up(pack.net)];
+  const of = (pile) => shown.filter((pack) => isIn(pack) && pack.pile === pile).map(at);
+  const size = Math.max(2, Math.min(7, 2400 / shown.length + 1.8));
+  const passed = isOnly ? of("passed") : shown.filter((pack) => isIn(pack) && isCounted(pack)).map(at);
   return [
-    element("path", { class: "bars", d: bars.join("") }),
-    element("path", { class: "axis", d: `M${BARS.left} ${PLOT.top}V${PLOT.bottom}` }),
-    element("text", { class: "number", x: BARS.left, y: PLOT.bottom + 20 }, "0"),
-    element("text", { class: "number", x: BARS.right - 8, y: PLOT.bottom + 20 }, most),
+    dots(passed, round(size), shown.length > 3000 ? .5 : .85),
+    isOnly ? mark("sample", of("sampled")) : [],
+    mark("void", of("voided")), mark("reject", of("rejected")),
+    mark("beyond", shown.filter(({ net }) => net < low).map(({ place }) => [x(place),
+      nets.bottom - 6])),
+    mark("above", shown.filter(({ net }) => net > top).map(({ place }) => [x(place), nets.top + 5])),
   ];
 }
 
-function captions() {
-  const below = (part, text) => element("text", { class: "number", y: HEIGHT - 6,
-    x: (part.left + part.right) / 2 }, text);
-  return [below(PLOT, say("number")), below(BARS, say("histogram"))];
+function meanLine(packs, [from, to], { x, up }) {
+  const means = runningMeans(packs).filter(([place]) => place >= from && place < to);
+  const apart = Math.max(1, Math.floor(means.length / 900));
+  const points = means.filter((_, at) => at % apart === 0)
+    .map(([place, net]) => `${x(place)} ${up(net)}`);
+  return points.length < 2 ? [] : [shape("path", { class: "l-mean", d: `M${points.join("L")}` })];
 }
 
-// What the chart shows, in words.
-export function inWords(sheet, packs) {
-  const count = (pile) => packs.filter((pack) => pack.pile === pile).length;
-  const mean = sheet.population ? spellGrams(sheet.net / sheet.population) : "–";
-  return say("chartSays", { count: packs.length, mean, rejected: count("rejected"),
-    voided: count("voided") });
+// Packs by net: bars beside the chart, by the same scale.
+function histogramBars(shown, { low, top, up, right, bars, nets }, isOnly) {
+  const many = isOnly ? 24 : 40;
+  const heights = histogram(shown, low, top, many);
+  const most = Math.max(1, ...heights);
+  const [step, start] = [(top - low) / many, right + 14];
+  const bar = (number, at) => {
+    const [y0, y1] = [up(low + (at + 1) * step) + .5, up(low + at * step) - .5];
+    const width = Math.max(1, round(number / most * (bars - 8)));
+    return number ? `M${start} ${y0}h${width}V${y1}H${start}z` : "";
+  };
+  return [shape("path", { class: "bars", d: heights.map(bar).join("") }),
+    shape("path", { class: "axis", d: `M${start} ${nets.top}V${nets.bottom}` }),
+    text(start, nets.top - 22, say("byNet"), "strong")];
 }
 
-export function chart(sheet, packs) {
-  const range = rangeOf(sheet, packs);
-  const scale = scales(packs, range);
-  const frame = `M${PLOT.left} ${PLOT.top}V${PLOT.bottom}H${PLOT.right}`;
-  return element("svg", { viewBox: `0 0 ${WIDTH} ${HEIGHT}`, role: "img", class: "chart" },
-    element("title", {}, say("chartOf", sheet)),
-    element("desc", {}, inWords(sheet, packs)),
-    ...histogram(packs, range, scale), element("path", { class: "axis", d: frame }),
-    ...limitLines(sheet, scale), ...meanLine(packs, scale), ...markPaths(packs, scale),
-    ...packNumbers(packs, scale), ...captions());
+function tareLines(packs, [from, to], { x, nets, bottom }) {
+  return tareChanges(packs).filter(({ place }) => place >= from && place < to)
+    .map(({ place, tare }) => [
+      shape("path", { class: "l-event", d: `M${x(place)} ${nets.top}V${bottom}` }),
+      text(x(place) + 5, nets.top - 4, say("tareFrom", { tare: grams(tare) }), "t-event")]);
 }
 
-// The marks and lines of the chart, each with its word.
-export function legend() {
-  const mark = (kind) => element("path", { class: `mark ${kind}`, d: MARKS[kind](12, 8) });
-  const keys = KINDS.map((kind) => [mark(kind), word(kind)]);
-  const means = element("path", { class: "means", d: "M0 8H24" });
-  const list = document.createElement("ul");
-  list.className = "legend";
-  for (const [shape, text] of [...keys, [means, say("meanOf")]]) {
-    const entry = document.createElement("li");
-    entry.append(element("svg", { viewBox: "0 0 24 16", "aria-hidden": "true" }, shape), text);
-    list.append(entry);
-  }
-  return list;
+function packNumbers(packs, [from, to], { x, bottom }, wide) {
+  return steps(from + 1, to, wide > 900 ? 10 : 5).filter((number) => packs[number - 1])
+    .map((number) => [
+      shape("path", { class: "axis", d: `M${x(number - 1)} ${bottom}v5` }),
+      text(x(number - 1), bottom + 18, count(number), "", "middle")]);
+}
+
+// One panel of subgroups: its points, its line and its limits.
+function groupPanel(box, shown, pick, range, lines, out, title, frame) {
+  const { up, frame: axis } = panel(box, ...range);
+  const points = shown.map((group) => [frame.x(group.place), up(pick(group))]);
+  const limit = ([kind, name, value], at, all) => {
+    // where two limits lie close together the figure of the mean gives way
+    const isClose = kind === "l-centre" && Math.abs(up(value) - up(all[0][2])) < 13;
+    return [across(kind, box.left, box.right, up(value)), isClose ? [] : [
+      text(box.left - 8, up(value) + 4, grams(value, 1), "", "end"),
+      text(box.right + 6, up(value) + 4, name)]];
+  };
+  return [axis, text(box.left, box.top - 8, title, "strong"), lines.map(limit),
+    points.length > 1
+      ? shape("path", { class: "l-net", d: `M${points.map((point) => point.join(" ")).join("L")}` })
+      : [],
+    dots(points, 4.5), mark("out", shown.map((group, at) => [group, points[at]])
+      .filter(([group]) => out(group)).map(([, point]) => point))];
+}
+
+function subgroupPanels({ groups, bounds, size }, [from, to], frame) {
+  const { left, right, nets, high } = frame;
+  const shown = groups.filter(({ place }) => place >= from && place < to);
+  const xs = { left, right, top: nets.bottom + 34, bottom: nets.bottom + 34 + high * .17 };
+  const ss = { left, right, top: xs.bottom + 30, bottom: high - 46 };
+  const reach = Math.max(1.6 * 3 * bounds.sigma,
+    ...shown.map(({ mean }) => 1.05 * Math.abs(mean - bounds.centre)));
+  const means = [["l-limit", "UCL", bounds.high], ["l-centre", say("centre"), bounds.centre],
+    ["l-limit", "LCL", bounds.low]];
+  const spreads = [["l-limit", "UCL", bounds.sHigh], ["l-centre", say("centre"), bounds.spread],
+    ["l-limit", "LCL", bounds.sLow]];
+  const widest = Math.max(bounds.sHigh * 1.18, ...shown.map(({ s }) => s * 1.05));
+  return [
+    groupPanel(xs, shown, ({ mean }) => mean, [bounds.centre - reach, bounds.centre + reach], means,
+      ({ rule }) => rule, say("xbar", { size }), frame),
+    groupPanel(ss, shown, ({ s }) => s, [0, widest], spreads, ({ isWide }) => isWide,
+      say("spread", { size }), frame)];
+}
+
+// Draws what lies between two places of a batch. Gives back the picture with its scales, for the
+// cursor. `groups` are its subgroups, or nothing where only the nets are drawn.
+export function drawChart({ sheet, packs, view, wide, groups = null }) {
+  const isOnly = groups === null;
+  const frame = frameOf({ sheet, packs, view, wide, isOnly });
+  const shown = packs.slice(...view);
+  const { left, nets, high, end, up, limits } = frame;
+  const counted = shown.filter(isCounted).map(({ net }) => net);
+  const { mean, s } = counted.length ? meanAndS(counted) : { mean: 0, s: 0 };
+  const picture = shape("svg", { class: "figure", viewBox: `0 0 ${wide} ${high}`, width: wide,
+    height: high, role: "img" },
+  shape("title", {}, say("chartTitle", sheet)),
+  shape("desc", {}, say("chartSays", { count: count(counted.length), mean: grams(mean, 2),
+    s: grams(s, 2), rejected: count(shown.filter(({ pile }) => pile === "rejected").length) })),
+  shape("rect", { class: "below", x: left, y: up(limits.t1), width: end - left,
+    height: nets.bottom - up(limits.t1) }),
+  frame.frame, limitLines(frame), packMarks(shown, frame, isOnly), meanLine(packs, view, frame),
+  histogramBars(shown, frame, isOnly), tareLines(packs, view, frame),
+  packNumbers(packs, view, frame, wide), text(left, nets.top - 22, say("individuals"), "strong"),
+  groups?.groups.length ? subgroupPanels(groups, view, frame) : []);
+  return { picture, ...frame };
+}
+
+export function groupsOf(packs, size) {
+  const groups = subgroups(packs, size);
+  groups.marked = groups.groups.length ? markRules(groups.groups, groups.bounds) : [];
+  return groups;
 }

@@ -1,363 +1,280 @@
-// The desk: every act of the office as a form, and the measuring of a sample pack by pack.
+// The desk: what waits for a person, batch by batch and one step at a time; measuring as a mode of
+// its own; every other act behind one menu with a search; what the book answered.
 
 import * as office from "./office.js";
-import * as grams from "./grams.js";
-import { addListed, addNames, names } from "./names.js";
-import { canKeep, give, isMine, onChange, outcome, pending, take, told, why } from "./requests.js";
-import { fillTexts, make, put, verdictMark } from "./page.js";
-import { refusal, say, word } from "./words.js";
+import { ACTS, actWords, makeForm, nameLists, pendingWords, toldActs } from "./acts.js";
+import { addListed, names } from "./names.js";
+import { addWords, say, word } from "./words.js";
+import { count, day, quantity } from "./numbers.js";
+import { deskChoice, onDesk } from "./mydesk.js";
+import { icon, loadStyles, make, put, redraw } from "./page.js";
+import { isTask, nextOf } from "./tasks.js";
+import { partOf, stepList, stepPanel } from "./steps.js";
+import { allLanes } from "./follow.js";
+import { onChange } from "./requests.js";
+import { openMeasuring } from "./measuring.js";
+import { openPickList } from "./labels.js";
+import { outcomeWords } from "./refusals.js";
 
-const DESKS = [101, 164];
-const MEASURED_ALREADY = 30;
-const FAR_DAYS = 31;
-const SHOWN = 12;
+addWords({
+  waits: ["Waits for you", "Wartet auf Sie"],
+  runs: ["Runs, nothing to do", "Läuft, nichts zu tun"],
+  closedLately: ["Closed", "Abgeschlossen"],
+  otherActs: ["Every other act", "Jede andere Handlung"],
+  findAct: ["Search acts", "Handlung suchen"],
+  noAct: ["No act is called so.", "Keine Handlung heißt so."],
+  nothingWaits: ["Nothing waits. Batches that need a person come here by themselves.",
+    "Nichts wartet. Chargen, die jemanden brauchen, kommen von selbst hierher."],
+  chooseTask: ["Choose a batch at the left, or an act below it.",
+    "Links eine Charge wählen oder darunter eine Handlung."],
+  "next held": ["held: void a pack, or correct the tare",
+    "gesperrt: Packung streichen oder Tara berichtigen"],
+  "next end": ["its lanes stopped: end it", "ihre Linien stehen: beenden"],
+  "next draw": ["draw the sample", "Probe ziehen"],
+  "next measure": ["measure, {measured} of {count} done", "nachwiegen, {measured} von {count} getan"],
+  "next second": ["draw the second sample", "zweite Probe ziehen"],
+  "next close": ["close it", "abschließen"],
+  told: ["Told by the book", "Vom Buch gesagt"],
+  bookDay: ["Day of the book: {day}", "Tag des Buchs: {day}"],
+  inForce: ["What is in force", "Was gilt"],
+});
+
 // How often the list of what is in force is asked for anew, in milliseconds.
 const LIST_EVERY = 10_000;
-// A measured pack that differs by more than this part of its weight on the lane is asked twice.
-const FAR_PART = 0.05;
+const TOLD = 12;
+const MOST_TASKS = 40;
+const MOST_CLOSED = 8;
 
-const weight = (name, least, most) => ({ name, kind: "grams", least, most });
-const batch = { name: "batch", kind: "name", list: "batches" };
-const product = { name: "product", kind: "name", list: "products" };
-const drawn = { name: "word", kind: "number", most: grams.MAX_WORD };
-const pack = { name: "pack", kind: "number", most: grams.MAX_NUMBER };
-const gross = weight("gross", 0, grams.MAX_GROSS);
-const empty = { ...weight("empty", 0, grams.MAX_TARE), optional: true };
-const mode = { name: "mode", kind: "choice", choices: ["keep", "destroy"] };
-
-// The fields of each act, and what is looked at before it is sent: an act can't be taken back.
-const ACTS = {
-  day: { fields: [{ name: "day", kind: "day" }], look: lookAtDay },
-  product: { fields: [{ name: "name", kind: "name" }, weight("nominal", ...grams.NOMINAL)] },
-  tare: { fields: [product, { name: "day", kind: "day", label: "from" },
-    weight("tare", 0, grams.MAX_TARE)] },
-  open: { fields: [{ name: "batch", kind: "name" }, product] },
-  end: { fields: [batch], look: lookAtBatch },
-  draw: { fields: [batch, mode, drawn] },
-  second: { fields: [batch, drawn] },
-  close: { fields: [batch], look: lookAtBatch },
-  void: { fields: [pack], look: lookAtPack },
-  measure: { fields: [pack, gross, empty], look: lookAtGross },
-};
-
-let desk = 0;
+const state = { batch: "", listedAt: 0, list: { batches: [], text: "", day: null }, rows: 0,
+  sheets: new Map(), onLane: new Set(), mode: "", shown: "" };
 let place;
-let listedAt = 0;
 
-// ---- what is looked at first: a text, after which the same has to be sent a second time
+// ---- which batches there are
 
-const UNSEEN = say("unseen");
-
-async function lookAtDay({ day }) {
-  const days = Math.round(grams.daysAway(day));
-  return days > FAR_DAYS ? say("farDay", { day, days }) : null;
+// Those of the list; without one, those that this browser knows and those on lanes.
+function batchNames() {
+  const listed = state.list.batches.filter(({ state: one }) => one !== "closed")
+    .map(({ batch }) => batch);
+  const known = [...listed, ...state.onLane, ...names().batches];
+  return [...new Set(known)].slice(0, MOST_TASKS);
 }
 
-async function lookAtBatch(act) {
-  const sheet = await office.sheet(act.batch);
-  if (sheet.refused) return null;
-  return say("aboutBatch", { ...sheet, state: word(sheet.state) });
-}
-
-async function lookAtPack(act) {
-  const found = await office.pack(act.pack);
-  const [gross, net] = found ? [found.gross, found.net].map(grams.spellGrams) : [];
-  return found && say("aboutPack", { ...found, gross, net, pile: word(found.pile) });
-}
-
-async function lookAtGross(act) {
-  const found = await office.pack(act.pack);
-  if (!found || Math.abs(found.gross - act.gross) <= FAR_PART * found.gross) return null;
-  const [told, typed] = [found.gross, act.gross].map(grams.spellGrams);
-  return say("farOff", { gross: told, typed });
-}
-
-// ---- fields
-
-// What was typed into a field, as the book wants it; null where the book would refuse it.
-function read(field, text) {
-  if (field.kind === "choice") return text;
-  if (field.kind === "name") return grams.isName(text.trim()) ? text.trim() : null;
-  if (field.kind === "day") return grams.isDay(text) ? text : null;
-  if (field.kind === "number") return grams.readNumber(text, field.most);
-  const mass = grams.readGrams(text);
-  return mass !== null && mass >= field.least && mass <= field.most ? mass : null;
-}
-
-function fault(field) {
-  const spell = (limit) => (field.kind === "grams" ? limit / 1000 : String(limit));
-  return say(`bad.${field.kind}`, { least: spell(field.least), most: spell(field.most) });
-}
-
-function makeInput(field, id) {
-  if (field.kind === "choice") {
-    return make("select", { id, name: field.name },
-      field.choices.map((choice) => make("option", { value: choice }, say(choice))));
-  }
-  const input = make("input", { id, name: field.name, autocomplete: "off",
-    type: field.kind === "day" ? "date" : "text", "aria-describedby": `${id}-bad` });
-  if (field.list) input.setAttribute("list", field.list);
-  if (field.kind !== "name") input.inputMode = field.kind === "grams" ? "decimal" : "numeric";
-  if (field === drawn) input.value = grams.drawWord();
-  return input;
-}
-
-function makeField(field, prefix) {
-  const id = `${prefix}-${field.name}`;
-  return make("p", { className: "field" },
-    make("label", { for: id }, say(`field.${field.label ?? field.name}`)),
-    makeInput(field, id), make("span", { id: `${id}-bad`, className: "bad" }));
-}
-
-// The values of a form's fields, or null with the first faulty one in focus.
-function readAll(form, fields) {
-  const values = {};
-  let first = null;
-  for (const field of fields) {
-    const input = form.elements[field.name];
-    const left = field.optional && input.value.trim() === "";
-    const value = left ? undefined : read(field, input.value);
-    input.setAttribute("aria-invalid", value === null);
-    put(document.getElementById(`${input.id}-bad`), value === null ? fault(field) : "");
-    if (value === null) first ??= input;
-    if (!left) values[field.name] = value;
-  }
-  first?.focus();
-  return first ? null : values;
-}
-
-// ---- forms
-
-// Makes a form that sends an act, when it is entered the second time where there is something to
-// look at first. `then` gets the outcome.
-function makeForm(name, { fields, look }, prefix, then) {
-  const said = make("output", { className: "said", role: "status" });
-  const form = make("form", { id: prefix, noValidate: true },
-    fields.map((field) => makeField(field, prefix)), make("button", {}, say("send")), said);
-  let agreed = "";
-  form.addEventListener("input", () => { agreed = ""; });
-  form.addEventListener("submit", async (event) => {
-    event.preventDefault();
-    const values = !form.busy && readAll(form, fields);
-    if (!values || !isReady(said)) return;
-    const typed = Object.values(values).join();
-    const first = look && agreed !== typed ? await lookFirst(look, values) : null;
-    agreed = first === UNSEEN ? "" : typed;
-    if (first) return tell(said, "look", first);
-    agreed = "";
-    await sendForm(form, said, { act: name, ...values }, then);
-  });
-  return form;
-}
-
-// What is to be seen before an act is sent; without an answer nothing is sent.
-async function lookFirst(look, values) {
-  const seen = await look(values).catch(() => UNSEEN);
-  return seen && seen !== UNSEEN ? `${seen} ${say("again")}` : seen;
-}
-
-function isReady(said) {
-  const taken = desk ? !isMine(desk) && "otherPage" : "chooseDesk";
-  const lacks = canKeep() ? taken : "noRoom";
-  if (lacks) tell(said, "refused", say(lacks));
-  return !lacks;
-}
-
-function tell(said, kind, text) {
-  said.className = `said ${kind}`;
-  put(said, text);
-}
-
-async function sendForm(form, said, act, then) {
-  form.busy = true;
-  tell(said, "", say("underWay"));
-  const entry = await outcome(desk, give(desk, act));
-  form.busy = false;
-  tell(said, entry.found.done ? "done" : "refused", inWords(entry));
-  if (entry.found.done) {
-    if (entry.found.done.verdict) {
-      tell(said, "", "");
-      said.append(verdictMark(entry.found.done.verdict));
-    }
-    addNames("batches", [act.batch]);
-    addNames("products", [act.product, act.act === "product" && act.name]);
-    showNames();
-    clear(form);
-  }
-  then?.(entry);
-}
-
-function clear(form) {
-  for (const input of form.querySelectorAll("input")) {
-    if (input.name === "word") input.value = grams.drawWord();
-    else if (!["batch", "product", "day"].includes(input.name)) input.value = "";
+async function askAll() {
+  const lanes = await allLanes();
+  state.onLane = new Set(lanes.map(({ batch }) => batch).filter((batch) => batch));
+  const wanted = batchNames();
+  if (state.batch && !wanted.includes(state.batch)) wanted.push(state.batch);
+  // a closed batch never changes
+  const open = wanted.filter((batch) => state.sheets.get(batch)?.state !== "closed");
+  for (const sheet of await Promise.all(open.map(office.sheet))) {
+    if (!sheet.refused) state.sheets.set(sheet.batch, sheet);
   }
 }
 
-// What an act said, with its masses in grams.
-function spellAct({ act, members }) {
-  const spelled = members.split(",").slice(1).map((member) => {
-    const [, name, value] = /^"(\w+)":"?([^"]*)"?$/.exec(member);
-    const isMass = ["gross", "empty", "tare", "nominal"].includes(name);
-    return isMass ? `${grams.spellGrams(value)} g` : value;
-  });
-  return `${say(`act.${act}`)}: ${spelled.join(", ")}. `;
+const nextFor = (sheet) => nextOf(sheet, state.onLane.has(sheet.batch));
+
+// ---- the lists at the left
+
+function taskLine(sheet) {
+  const next = nextFor(sheet);
+  const isHeld = next === "held";
+  return make("li", {}, make("a", { href: `#desk/${sheet.batch}`,
+    className: isHeld ? "task alarm" : "task",
+    "aria-current": sheet.batch === state.batch ? "true" : null },
+  make("strong", {}, sheet.batch), make("span", { className: "what" },
+    icon(isHeld ? "held" : "next"), make("span", {}, say(`next ${next}`, { ...partOf(sheet) })))));
 }
 
-// What became of an act, as a sentence.
-function inWords({ found }) {
-  if (found.done) {
-    const { row, verdict } = found.done;
-    return say("done", { row }) + (verdict ? ` ${say("verdict")}: ${word(verdict)}` : "");
+const plainLine = (sheet, text) => make("li", {},
+  make("a", { href: `#desk/${sheet.batch}` }, sheet.batch), make("span", {}, text));
+
+function putLists() {
+  const all = [...state.sheets.values()];
+  const waits = all.filter((sheet) => isTask(nextFor(sheet)))
+    .sort((one, other) => (nextFor(other) === "held") - (nextFor(one) === "held"));
+  const none = [make("li", { className: "quiet none" }, say("nothingWaits"))];
+  redraw(place.tasks, waits.length ? waits.map(taskLine) : none);
+  redraw(place.runs, all.filter((sheet) => nextFor(sheet) === "weigh")
+    .map((sheet) => plainLine(sheet, count(sheet.population))));
+  redraw(place.closed, all.filter(({ verdict }) => verdict).slice(0, MOST_CLOSED)
+    .map((sheet) => plainLine(sheet, word(sheet.verdict.split(" ")[0]))));
+  for (const [list, head] of [[place.runs, place.runsHead], [place.closed, place.closedHead]]) {
+    head.hidden = list.children.length === 0;
   }
-  if (found.refused) return refusal(found.refused, found.kept);
-  if (found.doubt) return say("doubt", { kept: found.doubt });
-  return found.foreign ? say("notYours") : say("broken", { word: found.broken });
 }
 
-// ---- measuring a sample
+// ---- the middle: a step, a mode, or the form of an act
 
-const measured = new Set();
-let task = null;
-
-// The packs to measure in drawing order: of a sample of which M are measured, those behind the
-// first M come first, and then those before, which the book refuses where they are measured.
-function inTurn(numbers, count) {
-  return [...numbers.slice(count), ...numbers.slice(0, count)];
+function titleOf(sheet) {
+  return make("div", { className: "title" }, make("div", {}, make("h1", {}, sheet.batch),
+    make("p", { className: "quiet" },
+      `${sheet.product} · ${quantity(sheet.quantity)} ${sheet.unit} · ${word(sheet.state)}`)),
+  make("p", { className: "right" },
+    make("a", { href: `#batch/${sheet.batch}` }, say("batch")),
+    make("a", { href: `#sheet/${sheet.batch}` }, say("sheet"))));
 }
 
-async function beginTask(name) {
-  const [sheet, sample] = await Promise.all([office.sheet(name), office.sample(name)]);
-  const second = sample.second.length > 0;
-  const numbers = second ? sample.second : sample.first;
-  const count = (second ? sheet.second : sheet.first)?.measured ?? 0;
-  task = { batch: name, mode: sheet.mode, numbers, count, turn: inTurn(numbers, count) };
-  if (count === numbers.length) task.turn = [];
-  await nextPack();
+// What of a batch changes its step: while that stays the panel stays, with what was typed.
+const keyOf = (sheet) => JSON.stringify([sheet.batch, nextFor(sheet), sheet.first, sheet.second,
+  sheet.population, sheet.state]);
+
+async function told() {
+  await office.following(askAll);
+  putLists();
+  const sheet = state.sheets.get(state.batch);
+  // what the act was told stays above the next step
+  const said = place.work.querySelector(".said:not(:empty)");
+  if (sheet && said) put(place.said, said.textContent);
+  putWork(true);
 }
 
-async function nextPack() {
-  const { batch: name, numbers, turn } = task;
-  const next = turn.find((number) => !measured.has(number));
-  const count = numbers.length;
-  place.task.hidden = next === undefined;
-  if (next === undefined) {
-    put(place.next, say(count ? "allMeasured" : "noSample", { count, batch: name }));
-    put(place.recorded, "");
+async function openMode(sheet, name, open) {
+  state.mode = name;
+  const leave = () => {
+    state.mode = "";
+    office.following(askAll).then(() => putWork(true));
+  };
+  const mode = make("div");
+  place.work.replaceChildren(titleOf(sheet), stepList("measure"), mode);
+  await office.following(() => open(mode, sheet, leave));
+}
+
+function putWork(isAnew = false) {
+  if (state.mode) return;
+  const sheet = state.sheets.get(state.batch);
+  const key = sheet ? keyOf(sheet) : `none ${state.batch}`;
+  place.desk.classList.toggle("has-work", Boolean(sheet));
+  if (key === state.shown && !isAnew) return;
+  state.shown = key;
+  if (!sheet) {
+    const text = state.batch && state.rows ? outcomeWords({ found: { refused: 14 } })
+      : say("chooseTask");
+    place.work.replaceChildren(make("h1", { className: "unseen" }, say("desk")),
+      make("p", { className: "quiet" }, text));
     return;
   }
-  const known = await office.pack(next);
-  put(place.next, say("nextPack", { pack: next, place: numbers.indexOf(next) + 1, count }));
-  put(place.recorded, say("recorded", { gross: grams.spellGrams(known.gross) }));
-  const { elements } = place.task;
-  elements.pack.value = next;
-  elements.gross.value = "";
-  elements.empty.value = "";
-  elements.empty.parentElement.hidden = task.mode !== "destroy";
-  elements.gross.focus();
+  const acts = { told, openAct,
+    measure: () => openMode(sheet, "measure", openMeasuring),
+    pick: () => openMode(sheet, "pick", openPickList) };
+  place.work.replaceChildren(titleOf(sheet), stepList(nextFor(sheet)),
+    stepPanel(sheet, state.onLane.has(sheet.batch), acts));
 }
 
-function tookPack(entry) {
-  const number = Number(/"pack":(\d+)/.exec(entry.members)[1]);
-  if (!entry.found.done && entry.found.refused !== MEASURED_ALREADY) return;
-  measured.add(number);
-  office.following(nextPack);
+function openAct(name, values = {}) {
+  state.mode = `act ${name}`;
+  place.desk.classList.add("has-work");
+  const form = makeForm(name, ACTS[name], `act-${name}`, () => {
+    office.following(askAll).then(putLists);
+    putNames();
+  });
+  for (const [field, value] of Object.entries(values)) form.elements[field].value = value;
+  const date = form.querySelector("input[type=date]");
+  if (date) date.value = state.list.day ?? "";
+  put(place.said, "");
+  place.work.replaceChildren(make("div", { className: "title" },
+    make("h1", {}, say(`act.${name}`))), make("section", { className: "panel step" }, form));
+  form.querySelector("input, select").focus();
 }
 
-function buildMeasuring() {
-  const id = "sample-batch";
-  const field = make("input", { id, list: "batches", autocomplete: "off", required: true });
-  const form = make("form", { className: "line" }, make("label", { for: id }, say("batch")), field,
-    make("button", {}, say("begin")));
+// ---- the menu of all acts
+
+function buildMenu() {
+  const search = make("input", { id: "find-act", type: "search", autocomplete: "off" });
+  const none = make("p", { className: "quiet", hidden: true }, say("noAct"));
+  const lines = Object.keys(ACTS).map((name) => {
+    const button = make("button", { type: "button", className: "second", id: `open-${name}` },
+      say(`act.${name}`));
+    button.addEventListener("click", () => openAct(name));
+    return { name, button, line: make("li", {}, button) };
+  });
+  const filter = () => {
+    const wanted = search.value.trim().toLowerCase();
+    for (const { name, line } of lines) {
+      line.hidden = !`${name} ${say(`act.${name}`)}`.toLowerCase().includes(wanted);
+    }
+    none.hidden = lines.some(({ line }) => !line.hidden);
+  };
+  search.addEventListener("input", filter);
+  const form = make("form", { role: "search", className: "find-act" },
+    make("label", { for: "find-act" }, say("findAct")), search);
   form.addEventListener("submit", (event) => {
     event.preventDefault();
-    measured.clear();
-    office.following(() => beginTask(field.value.trim()));
+    const first = lines.find(({ line }) => !line.hidden);
+    if (first) openAct(first.name);
   });
-  place.next = make("p", { className: "next", role: "status" });
-  place.recorded = make("p");
-  place.task = makeForm("measure", ACTS.measure, "task", tookPack);
-  place.task.hidden = true;
-  place.task.elements.pack.parentElement.hidden = true;
-  return make("section", { className: "measuring" }, make("h2", {}, say("measure")), form,
-    place.next, place.recorded, place.task);
+  return make("section", { className: "menu" }, make("h2", {}, say("otherActs")), form,
+    make("ul", { className: "acts-list" }, lines.map(({ line }) => line)), none);
 }
 
 // ---- the page
 
-function buildChoice() {
-  const numbers = Array.from({ length: DESKS[1] - DESKS[0] + 1 }, (_, at) => DESKS[0] + at);
-  const choice = make("select", { id: "my-desk" }, make("option", { value: 0 }, say("choose")),
-    numbers.map((number) => make("option", { value: number }, String(number))));
-  choice.addEventListener("change", () => {
-    sessionStorage.setItem("hall.desk", choice.value);
-    localStorage.setItem("hall.desk", choice.value);
-    choose(Number(choice.value));
-  });
-  choice.value = sessionStorage.getItem("hall.desk") ?? localStorage.getItem("hall.desk") ?? "0";
-  return make("p", { className: "line" }, make("label", { for: "my-desk" }, say("myDesk")), choice,
-    place.other);
+function putTold() {
+  const [kind, text] = pendingWords();
+  place.pending.className = `pending ${kind}`;
+  put(place.pending, text);
+  redraw(place.told, toldActs(TOLD).map((entry) => {
+    const [act, what] = actWords(entry);
+    const isDone = Boolean(entry.found.done);
+    return make("li", { className: isDone ? "done" : "refused" },
+      make("span", { className: "t-act" }, icon(isDone ? "pass" : "reject"), act), " ",
+      make("span", {}, what), ". ", make("span", {}, outcomeWords(entry)));
+  }));
 }
 
-function choose(number) {
-  desk = number;
-  put(place.other, "");
-  showPending(desk);
-  const waits = () => put(place.other, say("otherPage"));
-  if (desk && canKeep()) take(desk, waits, () => put(place.other, ""));
+function putNames() {
+  place.names.replaceChildren(...nameLists());
 }
 
-export function build(section) {
-  place = { pending: make("p", { className: "pending", role: "status" }),
-    other: make("strong", { className: "bad", role: "status" }),
-    told: make("ol", { className: "told" }), listed: make("pre"),
-    batches: make("datalist", { id: "batches" }), products: make("datalist", { id: "products" }) };
-  const choice = buildChoice();
-  const forms = Object.entries(ACTS).map(([name, act]) => make("details", { name: "act" },
-    make("summary", {}, say(`act.${name}`)), makeForm(name, act, `act-${name}`)));
-  section.append(choice, place.pending, make("div", { className: "desk" },
-    make("div", { className: "acts" }, forms),
-    make("div", {}, buildMeasuring(), make("h2", {}, say("told")), place.told)),
-  place.listed, place.batches, place.products);
-  fillTexts(section);
-  onChange(showPending);
-  showNames();
-  choose(Number(choice.querySelector("select").value));
-  askList();
+async function askList() {
+  state.listedAt = Date.now();
+  state.list = await addListed();
+  put(place.listed, state.list.text);
+  place.force.hidden = !state.list.text;
+  put(place.day, state.list.day ? say("bookDay", { day: day(state.list.day) }) : "");
+  putNames();
 }
 
-export async function refresh() {
-  if (Date.now() - listedAt > LIST_EVERY) askList();
-  await office.summary();
+export async function build(section) {
+  await loadStyles("forms.css", "desk.css");
+  const list = (className) => make("ol", { className });
+  place = { pending: make("p", { className: "pending", role: "status" }), told: list("told-list"),
+    tasks: list("tasks"), runs: list("plain-list"), closed: list("plain-list"),
+    work: make("div", { className: "work" }), names: make("div"), listed: make("pre"),
+    said: make("p", { className: "said done", role: "status" }), day: make("p", { className: "quiet" }),
+    runsHead: make("h3", {}, say("runs")), closedHead: make("h3", {}, say("closedLately")) };
+  place.force = make("details", { className: "in-force" }, make("summary", {}, say("inForce")),
+    place.listed);
+  place.desk = make("div", { className: "desk" });
+  place.desk.append(
+    make("div", { className: "left" }, deskChoice("my-desk"), place.day,
+      make("h2", {}, say("waits")), place.tasks, place.runsHead, place.runs, place.closedHead,
+      place.closed, buildMenu()),
+    make("div", { className: "middle" }, place.pending, place.said, place.work),
+    make("aside", { className: "told", "aria-label": say("told") }, make("h2", {}, say("told")),
+      place.told, place.force));
+  section.append(place.desk, place.names);
+  onChange(putTold);
+  onDesk(putTold);
+  putTold();
+  putNames();
+  await askList();
 }
 
-function askList() {
-  listedAt = Date.now();
-  addListed().then(showListed);
+export async function show(batch) {
+  if (batch !== state.batch || !state.mode.startsWith("act")) state.mode = "";
+  state.batch = batch;
+  put(place.said, "");
+  putWork(true);
+  await refresh(true);
 }
 
-function showNames() {
-  for (const [kind, known] of Object.entries(names())) {
-    place[kind].replaceChildren(...known.map((name) => make("option", { value: name })));
-  }
-}
-
-// What the front serves of `hall list`: what is in force stands below the forms.
-function showListed({ day, text }) {
-  if (text) put(place.listed, text);
-  const days = document.querySelectorAll("#desk input[type=date]:not(:focus)");
-  for (const input of days) input.value ||= day ?? "";
-  showNames();
-}
-
-function showPending(changed) {
-  if (changed !== desk) return;
-  const [head] = desk ? pending(desk) : [];
-  const tries = head?.tries ? ` (${head.tries})` : "";
-  const state = why.get(desk) === "500" ? "diskFailed" : why.has(desk) ? "asksAgain" : "asked";
-  place.pending.className = `pending ${head && state}`;
-  put(place.pending, head ? say(state, { request: head.request, tries }) : "");
-  const lines = desk ? told(desk).slice(0, SHOWN) : [];
-  place.told.replaceChildren(...lines.map((entry) => make("li", {},
-    `${entry.request} ${spellAct(entry)}`, make("strong", {}, inWords(entry)))));
+export async function refresh(isAnew = false) {
+  if (Date.now() - state.listedAt > LIST_EVERY) await askList();
+  const { rows } = await office.summary();
+  if (rows < state.rows) state.sheets.clear();
+  if (rows === state.rows && !isAnew) return;
+  state.rows = rows;
+  await askAll();
+  putLists();
+  putWork();
 }

@@ -1,21 +1,25 @@
-// Grams on the page, whole milligrams in the book; days, names and numbers as the book checks them.
+// Grams, millilitres and grams a litre on the page, whole thousandths of these in the book; days,
+// names and numbers as the book checks them.
 
 export const MAX_GROSS = 30_000_000;
 export const MAX_TARE = 5_000_000;
 export const NOMINAL = [5_000, 10_000_000];
+export const DENSITY = [500_000, 2_000_000];
 export const MAX_NUMBER = 4_294_967_295n;
 export const MAX_WORD = 18_446_744_073_709_551_615n;
 
-// The milligrams of `262.12`, `262,12` or `262.12 g`; null where it is no such text.
-export function readGrams(text) {
-  const parts = /^\s*(\d{1,8})(?:[.,](\d{1,3}))?\s*g?\s*$/.exec(text);
-  return parts && Number(parts[1]) * 1000 + Number((parts[2] ?? "").padEnd(3, "0"));
+// The thousandths of `262.12`, `262,12` or, where the unit is g, `262.12 g`; null where it is no
+// such text.
+export function readAmount(text, unit) {
+  const parts = /^\s*(\d{1,8})(?:[.,](\d{1,3}))?\s*(\S*)\s*$/.exec(text);
+  if (!parts || (parts[3] && parts[3] !== unit)) return null;
+  return Number(parts[1]) * 1000 + Number((parts[2] ?? "").padEnd(3, "0"));
 }
 
 // The milligrams of a mass that the book printed, which may be negative.
 export function readMass(text) {
-  const parts = /^(-?)(\d+)\.(\d{3})$/.exec(text);
-  const size = Number(parts[2]) * 1000 + Number(parts[3]);
+  const parts = /^(-?)(\d+)(?:\.(\d{1,3}))?$/.exec(text);
+  const size = Number(parts[2]) * 1000 + Number((parts[3] ?? "").padEnd(3, "0"));
   return parts[1] ? -size : size;
 }
 

@@ -1,47 +1,63 @@
 // Shows the page that the address names, keeps it fresh, and says how old it is.
 
-import { LANGUAGE, say, time } from "./words.js";
+import { LANGUAGE, changeLanguage, say, time } from "./words.js";
+import { fillTexts, icon, make, put } from "./page.js";
 import { following, link } from "./office.js";
-import { fillTexts, put } from "./page.js";
+import { keepText, readText } from "./store.js";
+import { loadSettings, settings } from "./settings.js";
+
+const soon = (name) => async () => (await import("./soon.js")).soonPage(name);
 
 // What is loaded when a page is first shown.
-const PAGES = {
+const PAGES = new Map(Object.entries({
   board: () => import("./board.js"),
-  chart: async () => (await import("./batch.js")).chartPage,
+  lane: () => import("./lane.js"),
+  batch: () => import("./batch.js"),
   desk: () => import("./desk.js"),
-  sheet: async () => (await import("./batch.js")).sheetPage,
-};
+  sheet: () => import("./sheet.js"),
+  reports: soon("reports"),
+  evidence: soon("evidence"),
+  search: soon("search"),
+}));
+// The name that a page had before.
+const FORMER = new Map([["chart", "batch"]]);
 const built = new Map();
 const EVERY = 2_000;
 const LATE = 8_000;
+const THEMES = ["light", "dark"];
 
-// The page and the batch of an address as `#chart/MORNING`.
+// The page of an address and what it is about, as `#batch/MORNING`.
 function asked() {
-  const [page, batch] = location.hash.slice(1).split("/");
-  return { page: page in PAGES ? page : "board", batch: batch ?? "" };
+  const [name, about] = location.hash.slice(1).split("/");
+  const page = FORMER.get(name) ?? name;
+  return { page: PAGES.has(page) ? page : "board", about: about ?? "" };
 }
 
-async function load(page) {
-  const loaded = await PAGES[page]();
-  if (!built.has(page)) {
-    built.set(page, loaded);
-    loaded.build(document.getElementById(page));
+async function load(name) {
+  if (!built.has(name)) {
+    const section = make("section", { id: name, "aria-label": say(name) });
+    built.set(name, PAGES.get(name)().then(async (page) => {
+      await page.build(section);
+      return { page, section };
+    }));
+    built.get(name).catch(() => built.delete(name));
   }
-  return loaded;
+  return built.get(name);
 }
 
 async function show() {
-  const { page, batch } = asked();
-  for (const section of document.querySelectorAll("main > section")) {
-    section.hidden = section.id !== page;
+  const { page: name, about } = asked();
+  for (const place of document.querySelectorAll("nav a")) {
+    if (place.hash === `#${name}`) place.setAttribute("aria-current", "page");
+    else place.removeAttribute("aria-current");
   }
-  for (const link of document.querySelectorAll("nav a")) {
-    if (link.hash === `#${page}`) link.setAttribute("aria-current", "page");
-    else link.removeAttribute("aria-current");
-  }
-  document.body.className = `on-${page}`;
-  document.title = `hall: ${say(page)}`;
-  (await load(page)).show?.(batch);
+  document.title = `hall: ${say(name)}`;
+  const { page, section } = await load(name);
+  if (asked().page !== name) return;
+  document.body.className = `on-${name}`;
+  const main = document.getElementById("content");
+  if (main.firstChild !== section) main.replaceChildren(section);
+  await page.show?.(about);
 }
 
 function showAge() {
@@ -49,21 +65,52 @@ function showAge() {
   const gone = Date.now() - link.at;
   const key = link.at === 0 ? "never" : gone > LATE ? "stale" : "fresh";
   const values = { time: time(link.at), seconds: Math.round(gone / 1000) };
-  age.className = key;
+  age.className = `age ${key}`;
+  document.body.classList.toggle("is-stale", key !== "fresh");
   put(age, say(link.why === "401" ? "login" : key, values));
+  put(document.getElementById("clock"), time(Date.now(), true));
   // said once to a screen reader, and not at each second
   put(alarm, key === "stale" ? say("staleSince", values) : "");
 }
 
 // Asks what is new for the page that is shown, again and again.
 async function keepFresh() {
-  await following(() => built.get(asked().page)?.refresh());
-  setTimeout(keepFresh, EVERY);
+  const shown = await following(async () => {
+    const { page } = await load(asked().page);
+    await page.refresh();
+    return page;
+  });
+  setTimeout(keepFresh, shown?.every ?? EVERY);
+}
+
+function setTheme(theme) {
+  if (THEMES.includes(theme)) document.documentElement.dataset.theme = theme;
+}
+
+function buildHead() {
+  const language = document.getElementById("language");
+  put(language, say("otherLanguage"));
+  language.lang = LANGUAGE ? "en" : "de";
+  language.addEventListener("click", changeLanguage);
+  const theme = document.getElementById("theme");
+  theme.append(icon("theme"));
+  theme.addEventListener("click", () => {
+    const set = document.documentElement.dataset.theme;
+    const isDark = set ? set === "dark" : matchMedia("(prefers-color-scheme: dark)").matches;
+    const next = isDark ? "light" : "dark";
+    keepText("hall.theme", next);
+    setTheme(next);
+  });
+  put(document.getElementById("where"), settings.hall);
 }
 
 document.documentElement.lang = LANGUAGE ? "de" : "en";
+setTheme(readText("hall.theme"));
 fillTexts(document);
-addEventListener("hashchange", show);
+await loadSettings();
+buildHead();
+addEventListener("hashchange", () => following(show));
 showAge();
 setInterval(showAge, 500);
-show().then(keepFresh);
+await following(show);
+keepFresh();

@@ -1,75 +1,140 @@
 // Small parts of which the pages are made.
 
 import { say, word } from "./words.js";
-import { spellGrams } from "./grams.js";
+
+const ATTRIBUTES = ["role", "for", "list", "scope", "headers"];
 
 // An element with properties, `data-*` and `aria-*` attributes, and what stands in it.
 export function make(name, properties = {}, ...children) {
   const made = document.createElement(name);
   for (const [key, value] of Object.entries(properties)) {
-    if (key.includes("-") || ["role", "for", "list"].includes(key)) {
-      made.setAttribute(key, value);
-    } else made[key] = value;
+    if (value === null || value === undefined) continue;
+    if (key.includes("-") || ATTRIBUTES.includes(key)) made.setAttribute(key, value);
+    else made[key] = value;
   }
-  made.append(...children.flat());
+  made.append(...children.flat(9).filter((child) => child !== null && child !== undefined));
   return made;
 }
 
-// Puts a text where it differs, so that a screen reader speaks only what is new.
+export function shape(name, attributes = {}, ...children) {
+  const made = document.createElementNS("http://www.w3.org/2000/svg", name);
+  for (const [key, value] of Object.entries(attributes)) made.setAttribute(key, value);
+  made.append(...children.flat(9));
+  return made;
+}
+
+// Puts a text where it differs, so that nothing is drawn or spoken twice.
 export function put(place, text) {
-  if (place.textContent !== text) place.textContent = text;
+  if (place.textContent !== String(text)) place.textContent = text;
 }
 
-// A table with a head; cells that are numbers stand to the right.
-export function table(caption, heads, rows) {
-  const line = (cells, kind) => make("tr", {}, cells.map((text) => make(kind, {
-    className: /^-?[\d.]+$/.test(text) ? "figure" : "", ...(kind === "th" ? { scope: "col" } : {}),
-  }, String(text))));
-  return make("table", {}, make("caption", {}, caption),
-    make("thead", {}, line(heads, "th")), make("tbody", {}, rows.map((row) => line(row, "td"))));
+// Puts parts in the place of those that are there where they differ, so that a link keeps its focus.
+export function redraw(place, parts) {
+  const now = make("div", {}, parts);
+  if (now.innerHTML !== place.innerHTML) place.replaceChildren(...now.childNodes);
 }
 
-// Facts, each with its name.
-export function facts(pairs) {
-  return make("dl", {}, pairs.map(([name, value]) =>
-    make("div", {}, make("dt", {}, name), make("dd", {}, value))));
+const ICONS = {
+  pass: "M4 12.8l5.2 5.2L20 6.8",
+  reject: "M5 5l14 14M19 5L5 19",
+  warn: "M12 3.2L22 20.5H2zM12 9.5v5M12 17.2v.6",
+  held: "M8 2.5h8l5.5 5.5v8L16 21.5H8L2.5 16V8zM7 12h10",
+  idle: "M8.5 5v14M15.5 5v14",
+  clock: "M12 2.5a9.5 9.5 0 1 0 0 19a9.5 9.5 0 1 0 0-19M12 6.5V12l4 2.5",
+  void: "M4 4h16v16H4zM4 20L20 4",
+  next: "M5 12h14M13 6l6 6l-6 6",
+  print: "M6 9V3h12v6M6 17H3V9h18v8h-3M6 14h12v7H6z",
+  theme: "M12 3a9 9 0 1 0 0 18a9 9 0 1 0 0-18M12 3v18M12 7l5-2M12 12h9M12 17l5 2",
+  early: "M6 3h12M6 21h12M7 3c0 5 5 6 5 9s-5 4-5 9M17 3c0 5-5 6-5 9s5 4 5 9",
+  dot: "M12 8a4 4 0 1 0 0 8a4 4 0 1 0 0-8",
+  sound: "M4 9v6h4l5 4V5L8 9zM16.5 8.5a5 5 0 0 1 0 7M19 6a9 9 0 0 1 0 12",
+  silent: "M4 9v6h4l5 4V5L8 9zM16.5 9.5l5 5M21.5 9.5l-5 5",
+};
+
+export function icon(name) {
+  return shape("svg", { class: `icon i-${name}`, viewBox: "0 0 24 24", "aria-hidden": "true" },
+    shape("path", { d: ICONS[name] }));
 }
 
-// How a batch stands, with what is given away: how far the nets lie above the nominal quantity.
-export function sheetFacts(sheet) {
-  const above = sheet.net - sheet.population * sheet.nominal;
-  const mean = (sum) => (sheet.population ? `${spellGrams(sum / sheet.population)} g` : "–");
-  const allowed = Math.floor(sheet.population / 40);
-  return facts([
-    [say("product"), `${sheet.product}, ${sheet.spelled}`],
-    [say("state"), word(sheet.state)],
-    [say("population"), String(sheet.population)],
-    [say("meanNet"), mean(sheet.net)],
-    [say("above"), mean(above)],
-    [say("aboveAll"), `${spellGrams(above)} g`],
-    [say("nonstandard"), say("ofAllowed", { count: sheet.nonstandard, allowed })],
-    [word("inadequate"), String(sheet.inadequate)],
-  ]);
+// A sign and its word: what is told by colour is told by these too.
+export function tag(kind, sign, text) {
+  return make("span", { className: `tag ${kind}` }, icon(sign), make("span", {}, text));
 }
 
-export function heldMark(held) {
-  return make("p", { className: held ? "held yes" : "held" }, say(held ? "held" : "free"));
+export function signalTag(signal) {
+  const isPass = signal === "pass";
+  return isPass ? tag("calm", "pass", word(signal)) : tag("alarm", "reject", word(signal));
 }
 
-// A verdict in large, with what fails.
-export function verdictMark(verdict) {
-  if (!verdict) return make("p", { className: "verdict" }, say("noVerdict"));
+// A verdict as its word, with what fails.
+export function verdictTag(verdict) {
+  if (!verdict) return tag("calm", "dot", say("noVerdict"));
   const [first, ...reasons] = verdict.split(" ");
-  const sign = { released: "✓ ", withheld: "✗ " }[first] ?? "";
+  const sign = { released: "pass", withheld: "reject" }[first] ?? "dot";
+  const kind = { released: "ok", withheld: "alarm" }[first] ?? "calm";
   const why = reasons.length ? `: ${reasons.map(word).join(", ")}` : "";
-  return make("p", { className: `verdict ${first}` }, `${sign}${word(first)}${why}`);
+  return tag(kind, sign, word(first) + why);
+}
+
+// How much of what is allowed is used: the bar ends at what is allowed, and what is over it lies
+// behind a tick. The words beside it say the same.
+export function meter(used, allowed, kind = "") {
+  const whole = Math.max(used, allowed, 1);
+  const wide = (part) => Math.round(part / whole * 1000) / 10;
+  const inside = wide(Math.min(used, allowed));
+  const bar = (name, x, width) => shape("rect", { class: name, x, width, height: 8 });
+  const over = used <= allowed ? []
+    : [bar("over", inside, 100 - inside), bar("tick", Math.max(0, inside - .6), .8)];
+  return shape("svg", { class: `meter ${kind}`, viewBox: "0 0 100 8", "aria-hidden": "true",
+    preserveAspectRatio: "none" }, bar("track", 0, 100), bar("fill", 0, inside), over);
+}
+
+// A table with a caption and heads; "right" in `sides` puts a column's figures to the right.
+export function table(caption, heads, rows, sides = []) {
+  const cell = (kind) => (text, at) => make(kind,
+    { className: sides[at] ?? "", scope: kind === "th" ? "col" : null }, text);
+  const line = (cells, kind) => make("tr", {}, cells.map(cell(kind)));
+  return make("table", {}, make("caption", {}, caption), make("thead", {}, line(heads, "th")),
+    make("tbody", {}, rows.map((row) => line(row, "td"))));
+}
+
+// Facts, each with its name and, in small, what belongs to it.
+export function facts(pairs, className = "facts") {
+  return make("dl", { className }, pairs.map(([name, value, more]) => make("div", {},
+    make("dt", {}, name), make("dd", {}, value, more ? make("small", {}, more) : null))));
+}
+
+export function notice(kind, sign, title, ...more) {
+  return make("div", { className: `notice ${kind}` },
+    icon(sign), make("div", {}, make("strong", {}, title), more));
 }
 
 // Fills every element that names its text.
 export function fillTexts(root) {
-  const named = root.querySelectorAll("[data-text]");
-  for (const place of named) place.textContent = say(place.dataset.text);
+  for (const place of root.querySelectorAll("[data-text]")) put(place, say(place.dataset.text));
   for (const place of root.querySelectorAll("[data-label]")) {
     place.setAttribute("aria-label", say(place.dataset.label));
   }
+}
+
+// Loads sheets of style once each; done when they are there.
+export function loadStyles(...names) {
+  const isThere = (name) => document.querySelector(`link[href="${name}"]`);
+  return Promise.all(names.filter((name) => !isThere(name)).map((name) => new Promise((done) => {
+    const link = make("link", { rel: "stylesheet", href: name });
+    link.addEventListener("load", done);
+    link.addEventListener("error", done);
+    document.head.append(link);
+  })));
+}
+
+// Draws a figure anew whenever its place has another size.
+export function whenSized(place, draw) {
+  let last = "";
+  new ResizeObserver(() => {
+    const [wide, high] = [place.clientWidth, place.clientHeight];
+    if (`${wide} ${high}` === last || wide === 0) return;
+    last = `${wide} ${high}`;
+    draw(wide, high);
+  }).observe(place);
 }

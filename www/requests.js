@@ -3,6 +3,7 @@
 // page keeps another may see a moment later; when it is closed, the next goes on with what it left.
 
 import { Missing, reach } from "./office.js";
+import { readKept } from "./store.js";
 
 const FIRST_PAUSE = 500;
 const LONGEST_PAUSE = 5_000;
@@ -18,16 +19,19 @@ const ASK_LAST = { request: 0, members: '"act":"day","day":"1970-01-01"' };
 
 const key = (desk, what) => `hall.${what}.${desk}`;
 
-function read(desk, what, otherwise) {
-  return JSON.parse(localStorage.getItem(key(desk, what)) ?? "null") ?? otherwise;
-}
+const read = (desk, what, otherwise) => readKept(key(desk, what), otherwise);
 
 function keep(desk, what, value) {
   localStorage.setItem(key(desk, what), JSON.stringify(value));
 }
 
-export const pending = (desk) => read(desk, "acts", []);
-export const told = (desk) => read(desk, "told", []);
+// What was kept and is whole; another page or program may have written into the store.
+const isEntry = (entry) => typeof entry?.mark === "string" && Number.isSafeInteger(entry.request)
+  && typeof entry.members === "string";
+
+export const pending = (desk) => read(desk, "acts", []).filter(isEntry);
+export const told = (desk) => read(desk, "told", [])
+  .filter((entry) => isEntry(entry) && entry.found);
 // Why the first act of a desk has no answer yet: a status, or the name of a fault.
 export const why = new Map();
 

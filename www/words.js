@@ -1,12 +1,25 @@
-// Every text of the pages, in English and in German, and each refusal as a sentence.
+// Every page's texts in English and in German. A page adds its own; those here are shared.
+
+import { keepText, readText } from "./store.js";
+
+const KEPT = "hall.lang";
+
+const wish = () => readText(KEPT) ?? navigator.language;
+export const LANGUAGE = wish().toLowerCase().startsWith("de") ? 1 : 0;
 
 const WORDS = {
   board: ["Board", "Tafel"],
-  chart: ["Chart", "Karte"],
+  lane: ["Lane", "Linie"],
+  batch: ["Batch", "Charge"],
   desk: ["Desk", "Platz"],
   sheet: ["Sheet", "Blatt"],
+  reports: ["Reports", "Berichte"],
+  evidence: ["Evidence", "Nachweise"],
+  search: ["Search", "Suche"],
   skip: ["To the content", "Zum Inhalt"],
   pages: ["Pages", "Seiten"],
+  otherLanguage: ["Deutsch", "English"],
+  theme: ["Light or dark", "Hell oder dunkel"],
   fresh: ["As of {time}", "Stand {time}"],
   stale: ["No answer for {seconds} s. Shown is what stood at {time}.",
     "Seit {seconds} s keine Antwort. Gezeigt ist der Stand von {time}."],
@@ -14,66 +27,35 @@ const WORDS = {
   never: ["The book hasn't answered yet.", "Das Buch hat noch nicht geantwortet."],
   login: ["The front wants your name and password again: load the page anew.",
     "Name und Passwort werden wieder gebraucht: die Seite neu laden."],
-  rows: ["rows", "Zeilen"],
-  pile: ["Pile", "Stapel"],
-  packs: ["Packs", "Packungen"],
-  gross: ["Gross g", "Brutto g"],
-  net: ["Net g", "Netto g"],
-  signal: ["Signal", "Signal"],
+  laneOf: ["Lane {lane}", "Linie {lane}"],
   pack: ["Pack", "Packung"],
-  balance: ["Balance of the hall", "Bilanz der Halle"],
-  lanes: ["Lanes", "Linien"],
-  batches: ["Batches", "Chargen"],
-  lane: ["Lane {lane}", "Linie {lane}"],
-  idle: ["idle", "frei"],
-  noLanes: ["No lane has a batch.", "Keine Linie hat eine Charge."],
-  noBatches: ["No batch was weighed lately.", "Zuletzt wurde keine Charge gewogen."],
-  aMinute: ["{count} packs a minute", "{count} Packungen je Minute"],
-  lastReject: ["Last reject: pack {pack}, net {net} g, {signal}",
-    "Letzter Ausschuss: Packung {pack}, netto {net} g, {signal}"],
-  batch: ["Batch", "Charge"],
+  packs: ["Packs", "Packungen"],
   product: ["Product", "Ware"],
-  state: ["State", "Stand"],
-  population: ["Packs that count", "Packungen, die zählen"],
-  meanNet: ["Mean net", "Mittel netto"],
-  above: ["Above nominal, a pack", "Über Nennmenge, je Packung"],
-  aboveAll: ["Above nominal, in all", "Über Nennmenge, gesamt"],
-  nonstandard: ["Non-standard, of allowed", "Untermaß, von erlaubt"],
-  ofAllowed: ["{count} of {allowed}", "{count} von {allowed}"],
-  held: ["HELD", "GESPERRT"],
-  free: ["not held", "nicht gesperrt"],
-  readings: ["readings", "gewogen"],
+  net: ["Net, g", "Netto, g"],
+  gross: ["Gross, g", "Brutto, g"],
+  signal: ["Signal", "Signal"],
+  pile: ["Pile", "Stapel"],
+  print: ["Print", "Drucken"],
+  show: ["Show", "Zeigen"],
+  stop: ["Stop", "Anhalten"],
+  nominal: ["nominal", "Nennmenge"],
+  ofAllowed: ["{used} of {allowed}", "{used} von {allowed}"],
+  loading: ["Asking the book ..", "Das Buch wird gefragt .."],
+  // words of the book
+  standard: ["standard", "in Ordnung"],
+  nonstandard: ["non-standard", "Untermaß"],
+  inadequate: ["inadequate", "unzulässig"],
+  readings: ["weighed", "gewogen"],
   passed: ["passed", "durchgelassen"],
   rejected: ["rejected", "ausgeschleust"],
   sampled: ["sampled", "gezogen"],
   voided: ["voided", "gestrichen"],
   running: ["running", "laufend"],
   ended: ["ended", "beendet"],
-  drawn: ["drawn", "Probe gezogen"],
+  drawn: ["sample drawn", "Probe gezogen"],
   closed: ["closed", "abgeschlossen"],
   wanted: ["is wanted", "fehlt"],
   unwanted: ["isn't wanted", "ist überflüssig"],
-  show: ["Show", "Zeigen"],
-  print: ["Print", "Drucken"],
-  stop: ["Stop", "Anhalten"],
-  loading: ["{found} of {readings} packs read, at row {row}",
-    "{found} von {readings} Packungen gelesen, bei Zeile {row}"],
-  partly: ["Shown are the last {found} of {readings} packs.",
-    "Gezeigt sind die letzten {found} von {readings} Packungen."],
-  chartOf: ["Nets of batch {batch} in order of weighing", "Nettos der Charge {batch}, wie gewogen"],
-  chartSays: ["{count} packs, mean net {mean} g, {rejected} rejected, {voided} voided",
-    "{count} Packungen, Mittel netto {mean} g, {rejected} ausgeschleust, {voided} gestrichen"],
-  nominal: ["nominal", "Nennmenge"],
-  meanOf: ["mean of the last 30", "Mittel der letzten 30"],
-  beyond: ["outside the chart", "außerhalb der Karte"],
-  histogram: ["Packs by net", "Packungen nach Netto"],
-  number: ["pack number", "Nummer der Packung"],
-  first: ["First sample", "Erste Probe"],
-  second: ["Second sample", "Zweite Probe"],
-  measured: ["{measured} of {count} measured, {defective} defective",
-    "{measured} von {count} nachgewogen, {defective} fehlerhaft"],
-  verdict: ["Verdict", "Urteil"],
-  noVerdict: ["no verdict yet", "noch kein Urteil"],
   released: ["released", "freigegeben"],
   withheld: ["withheld", "zurückgehalten"],
   empty: ["empty", "leer"],
@@ -81,195 +63,51 @@ const WORDS = {
   mean: ["mean", "Mittelwert"],
   average: ["average", "Durchschnitt"],
   allowance: ["allowance", "1 von 40"],
-  inadequate: ["inadequate", "unzulässig"],
-  asWeighed: ["Pack: gross in g, as weighed on the lane",
-    "Packung: brutto in g, wie auf der Linie gewogen"],
-  printed: ["Printed {time} from row {row} of the book.",
-    "Gedruckt {time} aus Zeile {row} des Buchs."],
-  signed: ["Checked by, date", "Geprüft von, am"],
-  myDesk: ["My desk", "Mein Platz"],
-  choose: ["choose", "wählen"],
-  chooseDesk: ["Choose your desk first.", "Zuerst den Platz wählen."],
-  otherPage: ["Another page of this browser has this desk. Go on there, or close it.",
-    "Eine andere Seite dieses Browsers hat diesen Platz. Dort weitermachen oder sie schließen."],
-  noRoom: ["This browser keeps nothing for the page, or the link isn't https: acts can't be sent.",
-    "Der Browser behält nichts für die Seite, oder es ist kein https: nichts wird gesendet."],
-  underWay: ["Under way ..", "Unterwegs .."],
-  asksAgain: ["Request {request}: no answer yet, asked again{tries}.",
-    "Auftrag {request}: noch keine Antwort, wird wieder gefragt{tries}."],
-  asked: ["Request {request} is asked.", "Auftrag {request} wird gefragt."],
-  diskFailed: [
-    "The book's disk failed. Call whoever runs the hall. Request {request} is asked again.",
-    "Die Platte des Buchs versagt. Die Betreuung rufen. Auftrag {request} wird wieder gefragt."],
-  told: ["Told so far", "Bisher gesagt"],
-  done: ["Done: row {row}.", "Getan: Zeile {row}."],
-  doubt: ["Another page works at this desk, at request {kept}. Whether this act was done isn't " +
-    "known: look at the batch, and do it again only if it is missing.",
-  "An diesem Platz arbeitet eine andere Seite, bei Auftrag {kept}. Ob dies getan wurde, ist " +
-    "nicht bekannt: die Charge ansehen und nur wiederholen, was fehlt."],
-  notYours: ["This desk isn't yours: choose your own, or ask whoever runs the hall.",
-    "Dieser Platz gehört Ihnen nicht: den eigenen wählen oder die Betreuung fragen."],
-  broken: ["The office didn't take this as an act ({word}). Nothing was done. Load the page anew.",
-    "Das Büro nimmt dies nicht an ({word}). Nichts wurde getan. Die Seite neu laden."],
-  unseen: ["No answer: look at it again before it is sent.",
-    "Keine Antwort: vor dem Senden noch einmal ansehen."],
-  again: ["Enter again to do it.", "Noch einmal Enter, um es zu tun."],
-  send: ["Send", "Senden"],
-  measure: ["Measure a sample", "Probe nachwiegen"],
-  begin: ["Begin", "Beginnen"],
-  nextPack: ["Pack {pack} ({place} of {count})", "Packung {pack} ({place} von {count})"],
-  recorded: ["weighed on the lane: {gross} g gross", "auf der Linie gewogen: {gross} g brutto"],
-  allMeasured: ["All {count} packs are measured. Next: close {batch}, or draw the second sample.",
-    "Alle {count} Packungen sind nachgewogen. Nun {batch} abschließen oder zweite Probe ziehen."],
-  noSample: ["{batch} has no sample: draw it first.", "{batch} hat keine Probe: zuerst ziehen."],
-  farOff: ["The book has {gross} g for this pack, and {typed} g was typed.",
-    "Im Buch steht {gross} g für diese Packung, getippt ist {typed} g."],
-  farDay: ["{day} is {days} days from today. A day can't be taken back.",
-    "{day} liegt {days} Tage von heute. Ein Tag kann nicht zurückgenommen werden."],
-  aboutPack: ["Pack {number} of {batch}, lane {lane}: {gross} g gross, {net} g net, {pile}.",
-    "Packung {number} aus {batch}, Linie {lane}: brutto {gross} g, netto {net} g, {pile}."],
-  aboutBatch: ["{batch}: {state}, {population} packs that count.",
-    "{batch}: {state}, {population} Packungen, die zählen."],
-  "act.day": ["Set the day", "Tag setzen"],
-  "act.product": ["New product", "Neue Ware"],
-  "act.tare": ["Set a tare", "Tara setzen"],
-  "act.open": ["Open a batch", "Charge eröffnen"],
-  "act.void": ["Void a pack", "Packung streichen"],
-  "act.end": ["End a batch", "Charge beenden"],
-  "act.draw": ["Draw the sample", "Probe ziehen"],
-  "act.measure": ["Measure one pack", "Eine Packung nachwiegen"],
-  "act.second": ["Draw the second sample", "Zweite Probe ziehen"],
-  "act.close": ["Close a batch", "Charge abschließen"],
-  "field.day": ["Day", "Tag"],
-  "field.from": ["From this day on", "Ab diesem Tag"],
-  "field.name": ["Name", "Name"],
-  "field.nominal": ["Nominal quantity, g", "Nennmenge, g"],
-  "field.product": ["Product", "Ware"],
-  "field.tare": ["Empty package, g", "Leere Verpackung, g"],
-  "field.batch": ["Batch", "Charge"],
-  "field.pack": ["Pack number", "Nummer der Packung"],
-  "field.mode": ["The packs", "Die Packungen"],
-  "field.word": ["Word of the draw (made up; note it)", "Wort der Ziehung (erdacht; notieren)"],
-  "field.gross": ["Whole pack, g", "Ganze Packung, g"],
-  "field.empty": ["Empty pack, g", "Leere Packung, g"],
-  keep: ["are kept", "bleiben heil"],
-  destroy: ["are opened and emptied", "werden geöffnet und geleert"],
-  "bad.name": ["1 to 32 of A-Z a-z 0-9 - _ . and a letter or digit first.",
-    "1 bis 32 aus A-Z a-z 0-9 - _ . und vorn ein Buchstabe oder eine Ziffer."],
-  "bad.day": ["A day from 1970-01-01 on.", "Ein Tag ab 1970-01-01."],
-  "bad.grams": ["Grams from {least} to {most}, as 262.12.",
-    "Gramm von {least} bis {most}, wie 262.12."],
-  "bad.number": ["A whole number up to {most}.", "Eine ganze Zahl bis {most}."],
+  held: ["HELD", "GESPERRT"],
+  pass: ["pass", "gut"],
+  "reject held": ["held", "gesperrt"],
+  "reject full": ["full", "voll"],
+  "reject inadequate": ["inadequate", "unzulässig"],
+  "reject allowance": ["allowance", "1 von 40"],
+  noVerdict: ["no verdict yet", "noch kein Urteil"],
+  // the forecast, on the board, at a lane and at a desk
+  wouldRelease: ["all packs: would pass", "alle Packungen: bestünde"],
+  wouldFail: ["would fail: {checks}", "fiele durch: {checks}"],
+  tooEarly: ["too early to tell", "noch zu früh"],
+  fewPacks: ["{count} packs, under 100", "{count} Packungen, unter 100"],
+  noPacks: ["no pack yet", "noch keine Packung"],
+  short: ["{short} short", "{short} zu wenig"],
+  nextNeed: ["next {next}: {each} g each", "nächste {next}: je {each} g"],
+  tooMany: ["{over} too many, {mend} good mend it", "{over} zu viel, {mend} gute heilen es"],
+  countsInadequate: ["{count} that counts is inadequate", "{count}, die zählt, ist unzulässig"],
+  countInadequate: ["{count} that count are inadequate", "{count}, die zählen, sind unzulässig"],
 };
 
-// By number from 1: the name in the book, and what to do.
-const REFUSALS = [
-  ["DeskNumber", "The desk isn't one of 101 to 164. Choose your desk above.",
-    "Der Platz ist keiner von 101 bis 164. Oben den Platz wählen."],
-  ["RequestOld",
-    "This desk is already at request {kept}. Load the page anew and look what was done.",
-    "Dieser Platz ist schon bei Auftrag {kept}. Seite neu laden und sehen, was getan ist."],
-  ["RequestReused", "Another act of this desk has this number (row {kept}). Send it anew.",
-    "Ein anderer Auftrag hat diese Nummer (Zeile {kept}). Neu senden."],
-  ["RequestGap", "The book knows this desk up to request {kept}. Load the page anew.",
-    "Das Buch kennt diesen Platz bis Auftrag {kept}. Die Seite neu laden."],
-  ["BookFull", "The book is full at {kept} rows. Ask whoever runs the hall for a new book.",
-    "Das Buch ist voll bei {kept} Zeilen. Die Betreuung um ein neues bitten."],
-  ["DayUnset", "The book has no day yet. Set the day first.",
-    "Das Buch hat noch keinen Tag. Zuerst den Tag setzen."],
-  ["DayBack", "The book is already at {kept}. Set that day or a later one.",
-    "Das Buch ist schon beim {kept}. Diesen oder einen späteren Tag setzen."],
-  ["ProductKnown", "This product is there already. Use it, or take another name.",
-    "Diese Ware gibt es schon. Sie nehmen oder einen anderen Namen wählen."],
-  ["ProductUnknown", "No product has this name. Check the spelling, or enter the product first.",
-    "Keine Ware heißt so. Schreibweise prüfen oder die Ware zuerst anlegen."],
-  ["NameShape", "A new name is 1 to 32 of A-Z a-z 0-9 - _ . and begins with a letter or digit.",
-    "Ein neuer Name hat 1 bis 32 aus A-Z a-z 0-9 - _ . und vorn Buchstabe oder Ziffer."],
-  ["NominalRange", "The nominal quantity has to be 5 g to 10 kg. Correct it.",
-    "Die Nennmenge muss 5 g bis 10 kg sein. Berichtigen."],
-  ["DayRange", "The day has to be 1970-01-01 to 9999-12-31. Correct it.",
-    "Der Tag muss 1970-01-01 bis 9999-12-31 sein. Berichtigen."],
-  ["BatchKnown", "A batch has this name already. Take another name.",
-    "Eine Charge heißt schon so. Einen anderen Namen wählen."],
-  ["BatchUnknown", "No batch has this name. Check the spelling, or open the batch first.",
-    "Keine Charge heißt so. Schreibweise prüfen oder die Charge zuerst eröffnen."],
-  ["BatchState",
-    "The batch is {kept}, so this can't be done now. Look at its sheet for what comes next.",
-    "Die Charge ist: {kept}. Das geht jetzt nicht. Auf dem Blatt sehen, was als Nächstes kommt."],
-  ["LaneNumber", "A lane has a number from 1 to 16. Correct it.",
-    "Eine Linie hat eine Nummer von 1 bis 16. Berichtigen."],
-  ["LaneBusy", "The lane weighs batch {kept}. Stop it first.",
-    "Die Linie wiegt Charge {kept}. Sie zuerst anhalten."],
-  ["LaneIdle", "The lane has no batch. Start it first.",
-    "Die Linie hat keine Charge. Sie zuerst starten."],
-  ["NoTare", "Product {kept} has no tare for today. Set its tare first.",
-    "Ware {kept} hat heute keine Tara. Zuerst die Tara setzen."],
-  ["GrossRange", "A pack weighs 0 to 30 kg. Weigh it again.",
-    "Eine Packung wiegt 0 bis 30 kg. Noch einmal wiegen."],
-  ["PriorWrong", "What the gate did at the pack before {kept}. Say it, or leave it out.",
-    "Was das Tor bei der vorigen Packung tat, {kept}. Angeben oder weglassen."],
-  ["LanesRunning", "Lane {kept} still weighs this batch. Stop the lane, then end the batch.",
-    "Linie {kept} wiegt noch diese Charge. Die Linie anhalten, dann die Charge beenden."],
-  ["TareRange",
-    "An empty package weighs 0 to 5 kg, and is given only where packs are emptied. Correct it.",
-    "Leer sind es 0 bis 5 kg, und nur, wo Packungen geleert werden. Berichtigen."],
-  ["PackUnknown", "No pack has this number. Read the number again.",
-    "Keine Packung hat diese Nummer. Die Nummer noch einmal lesen."],
-  ["PackPile", "The pack is {kept}, so this can't be done with it. Check its number.",
-    "Die Packung ist {kept}, damit geht das nicht. Ihre Nummer prüfen."],
-  ["Unsettled", "The pack may still be at the gate of lane {kept}. Wait for the next pack there.",
-    "Die Packung ist vielleicht noch am Tor der Linie {kept}. Dort die nächste Packung abwarten."],
-  ["BatchEmpty", "The batch has no pack to draw. Close it without a sample.",
-    "Die Charge hat keine Packung. Sie ohne Probe abschließen."],
-  ["ModeSmall", "{kept} packs are too few to open any. Draw so that the packs are kept.",
-    "{kept} Packungen sind zu wenige zum Öffnen. So ziehen, dass sie heil bleiben."],
-  ["NotDrawn", "No sample of this batch was drawn. Draw it first.",
-    "Von dieser Charge ist keine Probe gezogen. Zuerst ziehen."],
-  ["MeasuredAlready", "This pack was measured, at {kept} g. Go on with the next one.",
-    "Diese Packung ist nachgewogen, mit {kept} g. Mit der nächsten weitermachen."],
-  ["SecondNotNeeded", "No second sample is needed ({kept} defective). Close the batch.",
-    "Keine zweite Probe nötig ({kept} fehlerhaft). Die Charge abschließen."],
-  ["Unmeasured", "Pack {kept} isn't measured yet. Measure it first.",
-    "Packung {kept} ist noch nicht nachgewogen. Zuerst nachwiegen."],
-  ["SecondNeeded", "{kept} defective packs leave it open. Draw the second sample and measure it.",
-    "{kept} fehlerhafte Packungen lassen es offen. Die zweite Probe ziehen und nachwiegen."],
-  ["TareFrozen",
-    "Closed batch {kept} counts with the tare of that day. Set it from a later day on.",
-    "Die abgeschlossene Charge {kept} zählt mit dieser Tara. Ab einem späteren Tag setzen."],
-  ["DensityRange",
-    "The density has to be 500 to 2000 g a litre, and of goods by mass none. Correct it.",
-    "Die Dichte muss 500 bis 2000 g je Liter sein, nach Masse keine. Berichtigen."],
-];
+export function addWords(more) {
+  Object.assign(WORDS, more);
+}
 
-export const LANGUAGE = navigator.language.toLowerCase().startsWith("de") ? 1 : 0;
-
-function fill(text, values) {
+export function fill(text, values) {
   return text.replace(/\{(\w+)\}/g, (_, name) => values[name] ?? "");
 }
 
+const wordsOf = (key) => (Object.hasOwn(WORDS, key) ? WORDS[key][LANGUAGE] : null);
+
 export function say(key, values = {}) {
-  return fill(WORDS[key][LANGUAGE], values);
+  return fill(wordsOf(key) ?? key, values);
 }
 
-// A word of the book (a state, a pile, a reason) in the language of the page.
+// A word of the book, or several, in the language of the page.
 export function word(text) {
-  return text.split(" ").map((part) => WORDS[part]?.[LANGUAGE] ?? part).join(" ");
+  return wordsOf(text) ?? text.split(" ").map((part) => wordsOf(part) ?? part).join(" ");
 }
 
-export function refusal(number, kept) {
-  const [name, ...sentences] = REFUSALS[number - 1] ?? [String(number), "{kept}", "{kept}"];
-  return `${fill(sentences[LANGUAGE], { kept: word(kept) })} (${number} ${name})`;
+export function changeLanguage() {
+  keepText(KEPT, LANGUAGE ? "en" : "de");
+  location.reload();
 }
 
-// What a weighing was told: with a sign, so that no colour is needed.
-export function signal(text) {
-  const [first, cause] = text.split(" ");
-  const reasons = { held: ["held", "gesperrt"], full: ["full", "voll"] };
-  const why = cause && (reasons[cause]?.[LANGUAGE] ?? word(cause));
-  const words = first === "pass" ? ["pass", "gut"] : ["reject", "Ausschuss"];
-  return `${first === "pass" ? "✓" : "✗"} ${words[LANGUAGE]}${why ? ` ${why}` : ""}`;
-}
-
-export function time(moment) {
-  return new Date(moment).toLocaleTimeString(LANGUAGE ? "de" : "en-GB");
+export function time(moment, isShort = false) {
+  const form = isShort ? { hour: "2-digit", minute: "2-digit" } : undefined;
+  return new Date(moment).toLocaleTimeString(LANGUAGE ? "de" : "en-GB", form);
 }

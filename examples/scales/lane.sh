@@ -1,20 +1,24 @@
 #!/bin/sh
 # Joins a scale to a lane of a running hall, and does so again when either was away.
 #
-# usage: lane.sh DEVICE DIALECT CELL      as: lane.sh /dev/ttyUSB0 sics /run/hall-main/cell-1.txt
+# usage: lane.sh DEVICE TABLE CELL        as: lane.sh /dev/ttyUSB0 sics /run/hall-main/cell-1.txt
 #
-# It waits until the hall reads from the lane's pipe, and then keeps the pipe open: a lane whose
-# pipe ends is done until the hall starts again. Weights that come while no hall reads are dropped.
+# TABLE names the table by which `hall-adapter weights` reads the scale's lines (`hall-adapter
+# devices` has them all). It waits until the hall reads from the lane's pipe, and then keeps the
+# pipe open: a lane whose pipe ends is done until the hall starts again. Weights that come while no
+# hall reads are dropped. ADAPTER names another hall-adapter.
 set -u
 here=$(dirname "$0")
-device=$1 dialect=$2 cell=$3
+device=$1 table=$2 cell=$3
+adapter=${ADAPTER:-$here/../../adapters/hall-adapter}
+[ -x "$adapter" ] || adapter=hall-adapter
 # a scale that is pulled out hangs up
 trap '' PIPE HUP
 while :; do
     exec 3>"$cell" || exit 1
     while [ -e "$device" ] || sleep 1; do
         if [ -e "$device" ]; then
-            "$here/weights.py" "$dialect" <"$device" >&3 || break
+            "$adapter" weights "$table" <"$device" >&3 || break
             sleep 1
         fi
     done

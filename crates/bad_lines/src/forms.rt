@@ -1,60 +1,105 @@
+/// What a word of a command is.
+#[derive(Clone, Copy, PartialEq, Eq)]
+pub(crate) enum Part {
+    Day,
+    Mass,
+    Name,
+    Lane,
+    Pack,
+    /// The word of a draw.
+    Draw,
+    /// One of some words.
+    Choice,
+}
+
 /// How a command of a script is spelled.
 #[derive(Clone, Copy)]
 pub(crate) struct Form {
     pub spelled: &'static str,
+    /// What stands behind its first word.
+    pub parts: &'static [Part],
     /// Whether it is an act, which a desk may send.
     pub is_act: bool,
 }
 
-// The acts: their first words, and how they are spelled.
-const ACTS: [(&[u8], &str); 13] = [
-    (b"day", "day DATE (2025-03-03)"),
+// The acts: their first words, how they are spelled, and what stands behind the first word.
+const ACTS: [(&[u8], &str, &[Part]); 13] = [
+    (b"day", "day DATE (2025-03-03)", &[Part::Day]),
     (
         b"product",
         "product NAME GRAMS, or product NAME MILLILITRES ml",
+        &[Part::Name, Part::Mass, Part::Choice],
     ),
-    (b"tare", "tare PRODUCT DATE GRAMS"),
-    (b"open", "open BATCH PRODUCT [GRAMS A LITRE]"),
-    (b"start", "start LANE BATCH"),
+    (
+        b"tare",
+        "tare PRODUCT DATE GRAMS",
+        &[Part::Name, Part::Day, Part::Mass],
+    ),
+    (
+        b"open",
+        "open BATCH PRODUCT [GRAMS A LITRE]",
+        &[Part::Name, Part::Name, Part::Mass],
+    ),
+    (b"start", "start LANE BATCH", &[Part::Lane, Part::Name]),
     (
         b"weigh",
         "weigh LANE GRAMS [none, opened, stayed or unknown]",
+        &[Part::Lane, Part::Mass, Part::Choice],
     ),
-    (b"stop", "stop LANE [none, opened, stayed or unknown]"),
-    (b"void", "void PACK"),
-    (b"end", "end BATCH"),
+    (
+        b"stop",
+        "stop LANE [none, opened, stayed or unknown]",
+        &[Part::Lane, Part::Choice],
+    ),
+    (b"void", "void PACK", &[Part::Pack]),
+    (b"end", "end BATCH", &[Part::Name]),
     (
         b"draw",
         "draw BATCH keep WORD, or draw BATCH destroy WORD: a number",
+        &[Part::Name, Part::Choice, Part::Draw],
     ),
-    (b"measure", "measure PACK GRAMS [GRAMS OF THE EMPTY PACK]"),
-    (b"second", "second BATCH WORD: a number"),
-    (b"close", "close BATCH"),
+    (
+        b"measure",
+        "measure PACK GRAMS [GRAMS OF THE EMPTY PACK]",
+        &[Part::Pack, Part::Mass, Part::Mass],
+    ),
+    (
+        b"second",
+        "second BATCH WORD: a number",
+        &[Part::Name, Part::Draw],
+    ),
+    (b"close", "close BATCH", &[Part::Name]),
 ];
 
 // The other commands.
-const OTHERS: [(&[u8], &str); 6] = [
+const OTHERS: [(&[u8], &str, &[Part]); 6] = [
     (
         b"work",
         "work LANE BATCH, of a lane that the hall has (--lanes)",
+        &[Part::Lane, Part::Name],
     ),
-    (b"sheet", "sheet BATCH"),
-    (b"pack", "pack PACK"),
-    (b"lane", "lane LANE"),
-    (b"sample", "sample BATCH"),
-    (b"summary", "summary"),
+    (b"sheet", "sheet BATCH", &[Part::Name]),
+    (b"pack", "pack PACK", &[Part::Pack]),
+    (b"lane", "lane LANE", &[Part::Lane]),
+    (b"sample", "sample BATCH", &[Part::Name]),
+    (b"summary", "summary", &[]),
 ];
 
-// How the command of a word is spelled, by a table.
-fn spelled_in(table: &[(&[u8], &'static str)], word: &[u8]) -> Option<&'static str> {
-    let (_, spelled) = table.iter().find(|(first, _)| *first == word)?;
-    Some(*spelled)
+// The command of a word, by a table.
+fn form_in(
+    table: &[(&[u8], &'static str, &'static [Part])],
+    is_act: bool,
+    word: &[u8],
+) -> Option<Form> {
+    let (_, spelled, parts) = table.iter().find(|(first, _, _)| *first == word)?;
+    Some(Form {
+        spelled: *spelled,
+        parts: *parts,
+        is_act,
+    })
 }
 
 /// The command of a word, if there is one.
 pub(crate) fn form_of(word: &[u8]) -> Option<Form> {
-    let act = spelled_in(&ACTS, word);
-    let is_act = act.is_some();
-    let spelled = act.or_else(|| spelled_in(&OTHERS, word))?;
-    Some(Form { spelled, is_act })
+    form_in(&ACTS, true, word).or_else(|| form_in(&OTHERS, false, word))
 }

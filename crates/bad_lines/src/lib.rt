@@ -5,19 +5,23 @@
 //! standard error, since it acts again whenever the hall is begun again with the same plan.
 //!
 //! Promised: a read gives what the input gives, a write gives the output what it was given. What is
-//! told of a line stands in no clause; it is tested.
+//! told of a line stands in no clause; it is tested. Nor does what is told of words of the command
+//! line that are outside the grammar.
 #![tactic(auto)]
 
 mod forms;
 mod kept_input;
 mod kept_output;
 mod lines;
+mod papers;
+mod parts;
 mod plan;
 mod saying;
 mod setup_lines;
 mod telling;
 mod types;
 mod watched;
+mod words;
 
 pub use kept_input::KeptInput;
 pub use kept_output::{Fault, KeptOutput};
@@ -25,3 +29,4 @@ pub use saying::explain;
 pub use telling::reason;
 pub use types::{Kind, Reason};
 pub use watched::WatchedPlan;
+pub use words::explain_words;

@@ -6,16 +6,24 @@ use crate::types::{Kind, Shown};
 use std::alloc::Global;
 use std::io::{Eprint, Read, Write};
 
-/// Says on standard error why a line is bad, or the plan, where the last line of the output says so.
+/// Says on standard error why a line is bad, or the plan of a hall of so many lanes, where the last
+/// line of the output says so.
 pub fn explain<E: Eprint, R: Read + Drop, W: Write + Drop>(
     errors: &E,
     alloc: Global,
     input: &KeptInput<R>,
     output: &KeptOutput<W>,
+    lanes: u8,
 ) {
     match (output.fault(), input.kind()) {
         (Some(Fault::Line(number)), Kind::Plan) => {
             explain_setup(errors, alloc, input.bytes(), number);
+        }
+        (Some(Fault::Line(0)), Kind::Paper) => {
+            let _ = eprintln!(errors; "hall: bad line 0: a paper has at most 16777216 bytes");
+        }
+        (Some(Fault::Line(number)), Kind::Paper) => {
+            explain_paper(errors, input.bytes(), number, input.line(number));
         }
         (Some(Fault::Line(number)), kind) => {
             if let Some(line) = input.line(number) {
@@ -23,9 +31,21 @@ pub fn explain<E: Eprint, R: Read + Drop, W: Write + Drop>(
             }
         }
         (Some(Fault::Plan), Kind::Plan) => {
-            let _ = eprintln!(errors; "hall: bad plan: {}", plan_fault(alloc, input.bytes()));
+            let _ = eprintln!(errors; "hall: {}", plan_fault(alloc, input.bytes(), lanes));
         }
         _ => {}
+    }
+}
+
+// Says why a line of a paper is bad.
+fn explain_paper<E: Eprint>(errors: &E, paper: &[u8], number: u64, line: Option<&[u8]>) {
+    let ended = paper.iter().filter(|byte| **byte == b'\n').count() as u64;
+    match line {
+        Some(line) if ended < number && !line.is_empty() => {
+            let _ = eprintln!(errors; "hall: bad line {number}, {}: it has no LF", Shown(line));
+        }
+        Some(line) => say(errors, Kind::Paper, number, line),
+        None => {}
     }
 }
 

@@ -9,6 +9,8 @@ pub enum Kind {
     Table,
     /// A plan, which is read whole: what is said of its lines is said of those of its setup.
     Plan,
+    /// A paper, which is read whole.
+    Paper,
     /// Something else: none of it is kept.
     Other,
 }
@@ -30,12 +32,18 @@ pub enum Reason<'a> {
     NoRecord,
     /// This number of it has a comma.
     Comma(&'a [u8]),
+    /// This of it is wrong, as is said.
+    Part(&'static str, &'a [u8]),
+    /// A desk's number of the request is missing before this word.
+    NoRequest(&'a [u8]),
     /// There is no such command.
     NoCommand(&'a [u8]),
     /// The command is none of those that a desk sends.
     NoAct(&'a [u8]),
     /// It isn't spelled as that command is.
     Form(&'static str),
+    /// It isn't what a line of a paper has to be there.
+    Paper(&'static str),
 }
 
 /// How many bytes of a line are shown.
@@ -72,9 +80,16 @@ impl fmt::Display for Reason<'_> {
             Reason::NoHeader => f.write_str("the table begins with desk,request,command"),
             Reason::NoRecord => f.write_str("three fields are wanted: desk,request,command"),
             Reason::Comma(word) => write!(f, "a point, not a comma, in {}", Shown(word)),
+            Reason::Part(why, word) => write!(f, "{why} {}", Shown(word)),
+            Reason::NoRequest(word) => write!(
+                f,
+                "the request number is missing before {}",
+                Shown(word)
+            ),
             Reason::NoCommand(word) => write!(f, "no such command: {}", Shown(word)),
             Reason::NoAct(word) => write!(f, "no act that a desk sends: {}", Shown(word)),
             Reason::Form(form) => write!(f, "not as {form}"),
+            Reason::Paper(why) => f.write_str(why),
         }
     }
 }

@@ -1,4 +1,4 @@
-use bad_lines::Kind::{self, Script, Table};
+use bad_lines::Kind::{self, Paper, Script, Table};
 use bad_lines::reason;
 use std::alloc::Global;
 use std::fmt::Write;
@@ -83,7 +83,47 @@ const ROWS: &[(Kind, u64, &[u8], &str)] = &[
         "a point, not a comma, in 250,5",
     ),
     (Table, 2, b"101,1,\"viod 6\"\r", "no such command: viod"),
-    (Table, 2, b"0x65,1,void 6", "not as void PACK"),
+    (Table, 2, b"0x65,1,void 6", "a desk is 0 to 65535, not 0x65"),
+    (
+        Table,
+        2,
+        b"101,4294967296,void 6",
+        "a request is 0 to 4294967295, not 4294967296",
+    ),
+    (Script, 9, b"day 2025-02-29", "no such day: 2025-02-29"),
+    (
+        Script,
+        9,
+        b"day 1969-12-31",
+        "a day before 1970-01-01: 1969-12-31",
+    ),
+    (
+        Script,
+        9,
+        b"tare rice 2024-02-29 1.2345",
+        "more than three decimals in 1.2345",
+    ),
+    (Script, 9, b"weigh 1 -5", "a sign in -5"),
+    (Script, 9, b"weigh 256 5", "a lane is 1 to 16, not 256"),
+    (
+        Script,
+        9,
+        b"@65536 1 day 2025-03-03",
+        "a desk is 0 to 65535, not 65536",
+    ),
+    (
+        Script,
+        9,
+        b"@101 day 2025-03-03",
+        "the request number is missing before day",
+    ),
+    (
+        Paper,
+        9,
+        b"verdict released",
+        "not the verdict that follows from the lines before it",
+    ),
+    (Paper, 9, b"void 6", "no line of a paper begins so"),
 ];
 
 // Whether that is told.

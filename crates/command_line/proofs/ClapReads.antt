@@ -15,7 +15,7 @@ use Rattle.command_line.specs.Words.{Form, Item, are_given, are_taken, form_of, 
 use Rattle.command_line.specs.Words.{given_items, read_items, taken_items, value_of}
 use Rattle.command_line.specs.declared.types.Command.TheVariants.{Run, Serve, Report, Export, Check}
 use Rattle.command_line.specs.declared.types.Command.TheVariants.{Import, Trial, Migrate, Ship, Follow}
-use Rattle.command_line.specs.declared.types.Command.TheVariants.{Paper, Prove, Audit}
+use Rattle.command_line.specs.declared.types.Command.TheVariants.{Paper, Prove, Audit, Acts}
 use Rattle.command_line.specs.declared.types.Command.TheVariants as verb
 use Rattle.command_line.proofs.ManyOptions.{defaults_pass, finished_as, shape_for, simple, valid}
 use Rattle.command_line.proofs.Rows.{first_given}
@@ -105,6 +105,7 @@ is_known Paper = tt
 is_known Prove = tt
 is_known verb.List = tt
 is_known Audit = tt
+is_known Acts = tt
 
 by_known : (form : Form) → IsKnown form → FormReads form
 by_known (options names) known = by_options names

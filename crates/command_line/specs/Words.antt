@@ -14,7 +14,7 @@ use Rattle.hall_units.specs.Number.{bounded_number}
 use Rattle.command_line.specs.declared.types.Command.{Command}
 use Rattle.command_line.specs.declared.types.Command.TheVariants.{Run, Serve, Report, Export, Check}
 use Rattle.command_line.specs.declared.types.Command.TheVariants.{Import, Trial, Migrate, Ship, Follow}
-use Rattle.command_line.specs.declared.types.Command.TheVariants.{Paper, Prove, Audit}
+use Rattle.command_line.specs.declared.types.Command.TheVariants.{Paper, Prove, Audit, Acts}
 use Rattle.command_line.specs.declared.types.Command.TheVariants as verb
 use Rattle.command_line.specs.declared.values.Values.{Values}
 use Rattle.command_line.specs.declared.table.NumberForm.{NumberForm}
@@ -29,7 +29,8 @@ pub record Item : Type 0 where
 -- what is asked for: a command, the path of the book and a batch where they are named, the most
 -- rows, how many lanes and doors, the folder of the lanes' files where one is named, the port of
 -- the first door, the connections of each, the numbers of a trial, the port of the first lane's cell
--- where one is named, and how many rows a shipment passes over
+-- where one is named, how many rows a shipment or a book's text passes over, and how many rows a
+-- fingerprint is of
 pub record Wanted : Type 0 where
   pub command : Command
   pub book : Option (List ℕ)
@@ -59,7 +60,7 @@ commands = (codes "run", Run) ∷ (codes "serve", Serve) ∷ (codes "report", Re
     ∷ (codes "trial", Trial) ∷ (codes "migrate", Migrate) ∷ (codes "ship", Ship)
     ∷ (codes "follow", Follow) ∷ (codes "paper", Paper) ∷ (codes "prove", Prove)
     ∷ (codes "list", verb.List)
-    ∷ (codes "audit", Audit) ∷ []
+    ∷ (codes "audit", Audit) ∷ (codes "acts", Acts) ∷ []
 
 -- the command that a word names
 abbrev pub command_of : List ℕ → Option Command
@@ -90,6 +91,7 @@ form_of Paper = needed (codes "book" ∷ codes "batch" ∷ [])
 form_of Prove = options []
 form_of verb.List = options (codes "book" ∷ codes "limit" ∷ [])
 form_of Audit = options (codes "book" ∷ codes "rows" ∷ [])
+form_of Acts = options (codes "book" ∷ codes "after" ∷ [])
 
 -- ---- items
 

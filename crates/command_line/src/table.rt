@@ -24,6 +24,7 @@ pub fn find_command(word: &str) -> Option<Command>
         "prove" => Some(Command::Prove),
         "list" => Some(Command::List),
         "audit" => Some(Command::Audit),
+        "acts" => Some(Command::Acts),
         _ => None,
     }
 }
@@ -67,6 +68,7 @@ pub fn form_of(command: Command) -> Form
         Command::Prove => Form::Options(&[]),
         Command::List => Form::Options(&["book", "limit"]),
         Command::Audit => Form::Options(&["book", "rows"]),
+        Command::Acts => Form::Options(&["book", "after"]),
     }
 }
 
@@ -142,7 +144,7 @@ pub const ROWS: NumberForm = NumberForm {
     absent: MAX_ROWS as u64,
 };
 
-/// How many rows a shipment passes over.
+/// How many rows a shipment or a book's text passes over.
 pub const AFTER: NumberForm = NumberForm {
     least: 0,
     most: MAX_ROWS as u64,

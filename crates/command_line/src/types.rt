@@ -36,6 +36,8 @@ pub enum Command {
     /// Tells whether slots and snapshot of a book agree, and the fingerprint of its first rows:
     /// `audit --book PATH [--rows N]`
     Audit,
+    /// Writes a book as text, from behind the first so many rows on: `acts [--book PATH] [--after N]`
+    Acts,
 }
 
 /// What the words of the command line ask for.
@@ -67,7 +69,7 @@ pub struct Wants {
     /// The port on 127.0.0.1 at which the cell of lane 1 listens, 1 to `MAX_PORT`; that of lane I is
     /// I - 1 above it. Without one the cells are files.
     pub remote: Option<u16>,
-    /// How many rows a shipment passes over, 0 to `MAX_ROWS`; 0 for other commands.
+    /// How many rows a shipment or a book's text passes over, 0 to `MAX_ROWS`; 0 for other commands.
     pub after: u32,
     /// How many rows a fingerprint is of, 0 to `MAX_ROWS`, the first ones; `MAX_ROWS` for other
     /// commands.

@@ -1,7 +1,7 @@
 use book_words::Name;
 use command_line::Command::{
-    Audit, Check, Export, Follow, Import, List, Migrate, Paper, Prove, Report, Run, Serve, Ship,
-    Trial,
+    Acts, Audit, Check, Export, Follow, Import, List, Migrate, Paper, Prove, Report, Run, Serve,
+    Ship, Trial,
 };
 use command_line::{Command, Text, Wants, WantsError, wants};
 use hall_limits::MAX_ROWS;
@@ -114,10 +114,15 @@ const AUDIT: Asked = Asked {
     ..RUN
 };
 
+const ACTS: Asked = Asked {
+    command: Acts,
+    ..RUN
+};
+
 const BOOK: Option<&str> = Some("b.hall");
 
 // Words and what they ask for, written by hand from the grammar, as what follows.
-static ASKED: [(Words, Asked); 67] = [
+static ASKED: [(Words, Asked); 71] = [
     (&["run"], RUN),
     (&["check"], CHECK),
     (&["migrate"], MIGRATE),
@@ -363,6 +368,17 @@ static ASKED: [(Words, Asked); 67] = [
             ..AUDIT
         },
     ),
+    (&["acts"], ACTS),
+    (&["acts", "--after=0"], ACTS),
+    (&["acts", "--after", "1"], Asked { after: 1, ..ACTS }),
+    (
+        &["acts", "--after=1000000", "--book=b.hall"],
+        Asked {
+            book: BOOK,
+            after: 1_000_000,
+            ..ACTS
+        },
+    ),
     (&["report"], REPORT),
     (&["export"], EXPORT),
     (&["import"], IMPORT),
@@ -542,9 +558,9 @@ static REFUSED: [Words; 95] = [
     &["serves"],
 ];
 
-// The same, of the commands that copy a book, write and prove a paper, list what is in force, or
-// audit.
-static REFUSED_COPIES: [Words; 40] = [
+// The same, of the commands that copy a book, write and prove a paper, list what is in force,
+// audit, or write a book as text.
+static REFUSED_COPIES: [Words; 47] = [
     &["ship", "--after", "1000001"],
     &["ship", "--after=-1"],
     &["ship", "--after="],
@@ -589,6 +605,13 @@ static REFUSED_COPIES: [Words; 40] = [
     &["audit", "b"],
     &["audits", "--book=b"],
     &["run", "--rows=1"],
+    &["acts", "--after", "1000001"],
+    &["acts", "--after=-1"],
+    &["acts", "--after="],
+    &["acts", "--after=1", "--after=1"],
+    &["acts", "--limit=5"],
+    &["acts", "b"],
+    &["act"],
 ];
 
 fn words_of(alloc: Global, words: &[&str]) -> Result<Vec<String>, AllocError> {

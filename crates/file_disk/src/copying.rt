@@ -6,7 +6,6 @@ use crate::opening::{above_streams, check_begun};
 use book_file::has_header;
 use book_journal::{NEW_BYTES, ROW_BYTES};
 use disk_core::QuietDisk;
-use std::alloc::Global;
 use std::fs::{File, TryLockError};
 use std::rt::Files;
 
@@ -40,11 +39,6 @@ pub(crate) fn copy_book<R: Files<File = File> + AllocGlobal>(
         }
         Err(error) => Err(error.into()),
     }
-}
-
-/// An empty disk in memory, where there is no file.
-pub(crate) fn copy_nothing(alloc: Global) -> Result<BookCopy, OpenError> {
-    copied(Vec::with_capacity(alloc, NEW_BYTES)?, Notice::Absent)
 }
 
 // How many rows were read of a running book.

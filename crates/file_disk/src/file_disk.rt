@@ -2,11 +2,12 @@ ghost use Rattle.std.specs.Prelude.{IsErr};
 ghost use Rattle.device_facts.specs.Count.{CountsFault};
 
 use crate::backing::Backing;
-use crate::copying::{BookCopy, copy_book, copy_nothing};
+use crate::copying::{BookCopy, copy_book};
 use crate::named_file::NamedFile;
 use crate::notice::Notice;
 use crate::open_error::OpenError;
 use crate::opening::{make, open_present, with_same_rows};
+use crate::rows_left::RowsLeft;
 use device_facts::counted_once_more;
 use disk_core::{DISK_END, Disk, Failed, QuietDisk};
 use std::fs::File;
@@ -23,6 +24,7 @@ pub struct FileDisk<R: Eprint + Drop> {
     rt: R,
     backing: Result<Backing, OpenError>,
     notice: Option<Notice>,
+    rows_left: RowsLeft,
     told: bool,
     faults: u64,
 }
@@ -34,6 +36,7 @@ impl<R: Eprint + Drop> Drop for FileDisk<R> {
             rt: _,
             backing: _,
             notice: _,
+            rows_left: _,
             told: _,
             faults: _,
         } = self;
@@ -61,6 +64,7 @@ impl<R: Eprint + Drop> FileDisk<R> {
             rt,
             backing: Ok(Backing::Memory(disk)),
             notice: None,
+            rows_left: RowsLeft::untold(),
             told: false,
             faults: 0,
         }
@@ -76,6 +80,23 @@ impl<R: Eprint + Drop> FileDisk<R> {
     /// What whoever opened it should be told.
     pub fn notice(&self) -> Option<Notice> {
         self.notice
+    }
+
+    /// Tells on standard error from now on that few rows are left of so many: 50 000, the last one in
+    /// a hundred, and none.
+    pub fn tell_rows_left(&mut self, limit: u32)
+        ensures { self.new ≡ self.old }
+    {
+        self.rows_left = RowsLeft::of(limit);
+    }
+
+    // Tells how many rows are left, where that is to be told, as what was written is stable.
+    fn tell_left(&mut self)
+        ensures { self.new ≡ self.old }
+    {
+        if let Some(left) = self.rows_left.synced() {
+            let _ = eprintln!(self.rt; "hall: {left}");
+        }
     }
 
     // Counts a call that failed, and tells why where that wasn't told.
@@ -125,9 +146,9 @@ impl<R: Files<File = File> + AllocGlobal + Eprint + Drop> FileDisk<R> {
     }
 
     /// Opens the book at this path for a command that adds nothing. No file is made: where there is
-    /// none the disk is empty, in memory. A book that another hall has open, or whose file can't be
-    /// written, is read into memory; otherwise the disk is as by `open`, and its slots aren't compared
-    /// with a snapshot.
+    /// none the disk isn't open. A book that another hall has open, or whose file can't be written, is
+    /// read into memory; otherwise the disk is as by `open`, and its slots aren't compared with a
+    /// snapshot.
     pub fn open_to_read(rt: R, path: &str) -> Self
         ensures { result.faults ≡ 0 }
     {
@@ -138,10 +159,6 @@ impl<R: Files<File = File> + AllocGlobal + Eprint + Drop> FileDisk<R> {
             }
             Err(error) if is_unwritable(&error) => {
                 let copied = copy_book(&rt, path);
-                Self::over_copy(rt, copied)
-            }
-            Err(error) if error.is_of(ErrorKind::NotFound) => {
-                let copied = copy_nothing(rt.alloc());
                 Self::over_copy(rt, copied)
             }
             found => {
@@ -159,6 +176,7 @@ impl<R: Files<File = File> + AllocGlobal + Eprint + Drop> FileDisk<R> {
             rt,
             told: backing.is_err(),
             notice,
+            rows_left: RowsLeft::untold(),
             backing,
             faults: 0,
         }
@@ -255,6 +273,9 @@ impl<R: Files<File = File> + Eprint + Drop> Disk for FileDisk<R> {
             Ok(backing) => backing.write_at(place, bytes),
             Err(_) => shut(),
         };
+        if done.is_ok() {
+            self.rows_left.wrote(place, bytes);
+        }
         self.answer(done)
     }
 
@@ -268,6 +289,9 @@ impl<R: Files<File = File> + Eprint + Drop> Disk for FileDisk<R> {
             Err(_) => shut(),
         };
         self.told = self.told && done.is_err();
+        if done.is_ok() {
+            self.tell_left();
+        }
         self.answer(done)
     }
 }

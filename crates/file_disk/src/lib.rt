@@ -6,7 +6,8 @@
 //! buffer is filled with the bytes from its place on, as many as there are, however few of them each
 //! read of the system brings.
 //!
-//! Tested: that of a running book the header and the rows that stay are taken, with no snapshot, and
+//! Tested: that a file is written no more which somebody else has cut, overwritten, moved or deleted;
+//! what standard error is told of few rows that are left; that of a running book the header and the rows that stay are taken, with no snapshot, and
 //! that a book whose slots don't hold the rows of its snapshot isn't opened to be written. How many
 //! rows those are, that they stay, and how a slot is compared, is promised by book_file.
 //!
@@ -27,6 +28,7 @@ mod notice;
 mod open_error;
 mod opening;
 mod read_at;
+mod rows_left;
 mod size_limit;
 mod slots_check;
 mod transfer;

@@ -14,6 +14,8 @@ pub(crate) struct NamedFile {
     file: File,
     device: u64,
     number: u64,
+    // How many bytes it has, as far as this hall wrote it.
+    length: u64,
     greatest_size: u64,
 }
 
@@ -31,6 +33,7 @@ impl NamedFile {
             file,
             device: found.dev(),
             number: found.ino(),
+            length: found.len(),
             greatest_size: greatest_size(),
         })
     }
@@ -48,22 +51,35 @@ impl NamedFile {
     }
 
     /// Puts all bytes into the file from a place on. It fails where the file would be larger than the
-    /// system allowed as it was opened.
-    pub(crate) fn write_at(&self, place: u64, bytes: &[u8]) -> io::Result<()> {
-        if place.saturating_add(bytes.len() as u64) > self.greatest_size {
+    /// system allowed as it was opened, and where somebody else has made it longer or shorter since.
+    pub(crate) fn write_at(&mut self, place: u64, bytes: &[u8]) -> io::Result<()> {
+        let end = place.saturating_add(bytes.len() as u64);
+        if end > self.greatest_size {
             return Err(too_large());
         }
-        self.file.write_all_at(bytes, place)
+        if self.len()? != self.length {
+            return Err(changed());
+        }
+        let done = self.file.write_all_at(bytes, place);
+        self.length = match &done {
+            Ok(()) => self.length.max(end),
+            // A part of the bytes may be there.
+            Err(_) => self.len()?,
+        };
+        done
     }
 
-    /// Makes all that was put stable. It fails where the path names another file by now, or none.
+    /// Makes all that was put stable. It fails where the path names another file by now, or none, and
+    /// where somebody else has made the file longer or shorter.
     pub(crate) fn sync<R: Files<File = File>>(&self, rt: &R) -> io::Result<()> {
         settle(&self.file)?;
-        if self.is_named(rt)? {
-            Ok(())
-        } else {
-            Err(io::Error::other("the file at its path was replaced or deleted"))
+        if !self.is_named(rt)? {
+            return Err(io::Error::other("the file at its path was replaced or deleted"));
         }
+        if self.len()? != self.length {
+            return Err(changed());
+        }
+        Ok(())
     }
 
     // Whether the path names this file, or a folder on it goes by another name.
@@ -84,4 +100,9 @@ impl NamedFile {
             None => false,
         }
     }
+}
+
+// Why a file isn't written that has another length than this hall left.
+fn changed() -> io::Error {
+    io::Error::other("somebody else has cut or overwritten its file")
 }

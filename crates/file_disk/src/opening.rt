@@ -1,6 +1,7 @@
 use crate::copies::{read_running, read_still};
 use crate::open_error::OpenError;
 use crate::slots_check::first_difference;
+use crate::transfer::settle;
 use book_file::{has_header, is_unbegun};
 use book_journal::NEW_BYTES;
 use std::fs::{File, OpenOptions, canonicalize, symlink_metadata};
@@ -44,7 +45,8 @@ pub(crate) fn with_same_rows(file: File) -> Result<File, OpenError> {
     }
 }
 
-// Locks a file that is a book, or nothing yet.
+// Locks a file that is a book, or nothing yet. What a killed run wrote and didn't sync is stable
+// before anything is read.
 fn lock_book<R: Files<File = File> + AllocGlobal>(
     rt: &R,
     path: &str,
@@ -64,6 +66,7 @@ fn lock_book<R: Files<File = File> + AllocGlobal>(
     if found.len() == 0 {
         sync_folder(rt, path)?;
     }
+    settle(&file)?;
     Ok(file)
 }
 

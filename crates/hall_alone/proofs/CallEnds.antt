@@ -6,7 +6,7 @@ use Rattle.text_streams.specs.Streams.{Stream, IsCutIn}
 use Rattle.standby_hall.specs.Pages.{IsCutAt}
 use Rattle.command_line.specs.Words.{Wanted}
 use Rattle.command_line.specs.declared.types.Command.{Command}
-use Rattle.command_line.specs.declared.types.Command.TheVariants.{Run, Serve, Report, Export, Check, Import, Trial, Migrate, Ship, Follow, Paper, Prove, Audit}
+use Rattle.command_line.specs.declared.types.Command.TheVariants.{Run, Serve, Report, Export, Check, Import, Trial, Migrate, Ship, Follow, Paper, Prove, Audit, Acts}
 use Rattle.command_line.specs.declared.types.Command.TheVariants as verb
 use Rattle.store_runs.specs.declared.stop.Stop.{Stop}
 use Rattle.store_runs.specs.Books.{BookState}
@@ -52,6 +52,7 @@ not_explained Paper wanted book call stop serves explained = absurd (cc)
 not_explained Prove wanted book call stop serves explained = absurd (cc)
 not_explained verb.List wanted book call stop serves explained = absurd (cc)
 not_explained Audit wanted book call stop serves explained = explained
+not_explained Acts wanted book call stop serves explained = absurd (cc)
 
 -- a call of `serve` whose disk was opened as a book isn't one of another command
 not_opened : {S D : Type 0} (g : disk.Ghosts D) (wanted : Wanted) (before : D)
@@ -59,7 +60,7 @@ not_opened : {S D : Type 0} (g : disk.Ghosts D) (wanted : Wanted) (before : D)
     → EndsAs g wanted before outcome call → IsUnopened g before outcome call
 not_opened g wanted before outcome call serves (inl opened) = absurd
     (not_explained wanted.command wanted _ call opened.stop serves opened.explained)
-not_opened g wanted before outcome call serves (inr (inl unopened)) = unopened
+not_opened g wanted before outcome call serves (inr (inl ends)) = ends.unopened
 not_opened g wanted before outcome call serves (inr (inr audited)) =
     absurd (serves_not wanted.command serves audited.asked)
   where

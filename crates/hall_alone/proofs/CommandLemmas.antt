@@ -25,7 +25,9 @@ use Rattle.standby_hall.specs.Following.{EndsBehind, ExplainsFollowRun, shipment
 use Rattle.hall_alone.specs.declared.ended.Outcome.{Outcome}
 use Rattle.call_endings.specs.declared.ending.Ending.TheVariants.{Usage, Unopened, Stopped}
 use Rattle.book_migration.specs.Migration.{ExplainsMigration}
-use Rattle.hall_alone.specs.Calls.{ExplainsAs, ExplainsCommand, SaysAll, SaysWhole, input_of, CarriesJournal, FollowsShipment, EndsCarrying, LanesRest, ExplainsSaying, ExplainsPrinting, ExplainsExport, IsImport, IsTrial, stream_call, SaysBehind, ExplainsCarrying, ExplainsMigrate, ExplainsFollow, ExplainsPaper, ProvesInput, ExplainsProve, prove_stop, EndsAs, ending_of}
+use Rattle.act_lines.specs.ActViews.{acts_text}
+use Rattle.act_replay.specs.Replay.{CanBeReplayed}
+use Rattle.hall_alone.specs.Calls.{ExplainsAs, ExplainsActs, ExplainsCommand, SaysAll, SaysWhole, input_of, CarriesJournal, FollowsShipment, EndsCarrying, LanesRest, ExplainsSaying, ExplainsPrinting, ExplainsExport, IsImport, IsTrial, stream_call, SaysBehind, ExplainsCarrying, ExplainsMigrate, ExplainsFollow, ExplainsPaper, ProvesInput, ExplainsProve, prove_stop, EndsAs, ending_of}
 use Rattle.book_audit.specs.declared.types.AuditEnd.{AuditEnd}
 use Rattle.book_audit.specs.declared.types.AuditEnd.TheVariants as audits
 
@@ -81,6 +83,16 @@ explains_export book call was stop rows prints same stopped each reads_back =
       prints = prints;
       each = λ finished. subst HasEachReading (sym same) (each (sym stopped ∙ finished));
       reads_back = subst IsReadBack (sym same) reads_back;
+    }
+
+-- the book went out as text
+pub explains_acts : {S : Type 0} (after : ℕ) (book : BookState) (call : Call S) (stop : Stop)
+    (rows : List Entry) → ExplainsPrinting (acts_text after) book call stop → call.rows ≡ rows
+    → CanBeReplayed after rows → ExplainsActs after book call stop
+explains_acts after book call stop rows prints same replays =
+    record {
+      prints = prints;
+      replays = subst (CanBeReplayed after) (sym same) replays;
     }
 
 -- it touches no disk
@@ -331,8 +343,8 @@ pub ends_otherwise : {S D : Type 0} (g : disk.Ghosts D) (wanted : Wanted) (befor
     → outcome.ending ≡ Usage → ⊥
 ends_otherwise g wanted before outcome call (inl opened) is = absurd
     (let same : Stopped opened.stop ≡ Usage = sym opened.ending ∙ is in cc)
-ends_otherwise g wanted before outcome call (inr (inl unopened)) is = absurd
-    (let same : Unopened unopened.why ≡ Usage = sym unopened.ending ∙ is in cc)
+ends_otherwise g wanted before outcome call (inr (inl ends)) is = absurd
+    (let same : Unopened ends.unopened.why ≡ Usage = sym ends.unopened.ending ∙ is in cc)
 ends_otherwise g wanted before outcome call (inr (inr audited)) is =
     no_usage audited.audits.end (sym audited.audits.ending ∙ is)
   where

@@ -204,7 +204,10 @@ refused_ends g asked wanted answer Usage before outcome call read asks is ends s
     rows = absurd (let clash : None ≡ Some wanted = sym (read.usage.0 is) ∙ asks in cc)
 refused_ends g asked wanted answer NoMemory before outcome call read asks is ends same held unread
     quiet rows =
-    inr (inl (is_unopened g before before mount.NoMemory outcome call
-    (inl (unmoved_none g before), refl)
-    (λ bytes told kept holds legal. (tt, inr (unmoved_none g before))) unread quiet rows same held
-    ends))
+    inr (inl record {
+      unopened = is_unopened g before before mount.NoMemory outcome call
+          (inl (unmoved_none g before), refl)
+          (λ bytes told kept holds legal. (tt, inr (unmoved_none g before))) unread quiet rows same
+          held ends;
+      unaudited = λ audit. (ends, same);
+    })

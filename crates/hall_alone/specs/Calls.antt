@@ -11,6 +11,7 @@ use Rattle.book_words.specs.Answers.{IsLegal}
 use Rattle.book_journal.specs.Rows.{FitsSnapshot}
 use Rattle.book_journal.specs.Mounting.{KeepsFromSync}
 use Rattle.book_mount.specs.declared.types.MountError.{MountError}
+use Rattle.book_mount.specs.declared.types.MountError.TheVariants as mount
 use Rattle.book_store.specs.declared.store.Store.{Store}
 use Rattle.book_store.specs.Images.{HoldsBook}
 use Rattle.book_store.specs.Kept.{with_offered, CrashLeaves}
@@ -39,6 +40,8 @@ use Rattle.prove_run.specs.declared.types.ProveEnd.TheVariants as proving
 use Rattle.prove_run.specs.Proving.{ExplainsProving}
 use Rattle.import_run.specs.Runs.{ExplainsImport}
 use Rattle.list_run.specs.Texts.{list_text}
+use Rattle.act_lines.specs.ActViews.{acts_text}
+use Rattle.act_replay.specs.Replay.{CanBeReplayed}
 use Rattle.trial_run.specs.Trials.{ExplainsTrial}
 use Rattle.report_run.specs.Printing.{SaysText}
 use Rattle.report_run.specs.Reports.{HasEachReading, IsReadBack, batch_text, book_register, report_text}
@@ -56,7 +59,7 @@ use Rattle.command_line.specs.Words.{Wanted}
 use Rattle.command_line.specs.declared.types.Command.{Command}
 use Rattle.command_line.specs.declared.types.Command.TheVariants.{Run, Serve, Report, Export, Check}
 use Rattle.command_line.specs.declared.types.Command.TheVariants.{Import, Trial, Migrate, Ship, Follow}
-use Rattle.command_line.specs.declared.types.Command.TheVariants.{Paper, Prove, Audit}
+use Rattle.command_line.specs.declared.types.Command.TheVariants.{Paper, Prove, Audit, Acts}
 use Rattle.command_line.specs.declared.types.Command.TheVariants as verb
 
 -- nothing was read or written, no lane was worked, and there are no rows
@@ -167,6 +170,12 @@ ExplainsReport batch book call stop = ExplainsPrinting (reported batch) book cal
 -- what is in force in a book that may have so many rows
 abbrev pub ExplainsList : {S : Type 0} → ℕ → BookState → Call S → Stop → Type 0
 ExplainsList limit book call stop = ExplainsPrinting (list_text limit) book call stop
+
+-- the book as text, from behind the first so many rows on; that text can be asked again
+pub record ExplainsActs {S : Type 0} (after : ℕ) (book : BookState) (call : Call S) (stop : Stop)
+    : Type 0 where
+  pub prints : ExplainsPrinting (acts_text after) book call stop
+  pub replays : CanBeReplayed after call.rows
 
 -- the register of the book, which the kit's `csv` reads back; done, it has each reading, and nothing
 -- else
@@ -289,6 +298,7 @@ ExplainsAs Paper wanted book call stop = ExplainsPaper wanted.batch book call st
 ExplainsAs Prove wanted book call stop = ExplainsProve book call stop
 ExplainsAs verb.List wanted book call stop = ExplainsList wanted.limit book call stop
 ExplainsAs Audit wanted book call stop = ⊥
+ExplainsAs Acts wanted book call stop = ExplainsActs wanted.after book call stop
 
 -- how the command that is asked for ends
 abbrev pub ExplainsCommand : {S : Type 0} → Wanted → BookState → Call S → Stop → Type 0
@@ -322,12 +332,20 @@ pub record IsAudited {S D : Type 0} (disk : disk.Ghosts D) (wanted : Wanted) (be
   pub audits : AuditsDisk disk wanted.rows before outcome call.before.outside.output
       call.now.outside.output
 
+-- The words were read, and the disk wasn't opened as a book. An audit ends so only for want of memory
+-- for its words, and leaves the disk as it was handed in.
+pub record EndsUnopened {S D : Type 0} (disk : disk.Ghosts D) (wanted : Wanted) (before : D)
+    (outcome : Outcome D) (call : Call S) : Type 0 where
+  pub unopened : IsUnopened disk before outcome call
+  pub unaudited : is_audit wanted.command ≡ true
+      → (outcome.ending ≡ Unopened mount.NoMemory) × (outcome.disk ≡ before)
+
 -- A call with right words: the disk was opened as a book and the command ended in one of its ways,
 -- or it wasn't opened, or it was audited.
 abbrev pub EndsAs : {S D : Type 0} → disk.Ghosts D → Wanted → D → Outcome D → Call S → Type 0
 EndsAs disk wanted before outcome call =
     IsOpened disk wanted.limit (ExplainsCommand wanted) before outcome call
-    ⊎ IsUnopened disk before outcome call ⊎ IsAudited disk wanted before outcome call
+    ⊎ EndsUnopened disk wanted before outcome call ⊎ IsAudited disk wanted before outcome call
 
 -- a call with wrong words: nothing was read, the disk is as it was, and there are no rows
 pub record IsUsage {S D : Type 0} (before : D) (outcome : Outcome D) (call : Call S) : Type 0

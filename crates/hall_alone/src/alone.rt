@@ -17,7 +17,7 @@ ghost use Rattle.call_endings.specs.Endings.{is_status, SaysLast};
 ghost use Rattle.hall_alone.specs.Calls.{call_between, ExplainsCommand, EndsAs, CommandDone, AuditsDisk, ending_of, IsUsage, Leaves};
 
 use crate::ended::{Ended, Outcome};
-use crate::reports::{export, list, paper, prove, report, ship};
+use crate::reports::{acts, export, list, paper, prove, report, ship};
 use crate::whole::{end_carrying, say_whole};
 use book_audit::{AuditEnd, audit_run};
 use book_core::{Book, Rows};
@@ -98,6 +98,7 @@ fn run_command<S: Source, K: Sink, D: Disk, L: Lane>(
         }
         Command::Prove => without_lanes(alloc, prove(alloc, store, input, output)),
         Command::List => without_lanes(alloc, list(alloc, store, wanted.limit, output)),
+        Command::Acts => without_lanes(alloc, acts(alloc, store, wanted.after, output)),
     }
 }
 

@@ -4,11 +4,14 @@ ghost use Rattle.text_streams.specs.Streams.{input_at, output_at};
 ghost use Rattle.report_run.specs.Printing.{SaysText};
 ghost use Rattle.paper_run.specs.Printing.{SaysPaper};
 ghost use Rattle.list_run.specs.Texts.{list_text};
+ghost use Rattle.act_lines.specs.ActViews.{acts_text};
+ghost use Rattle.act_replay.specs.Replay.{CanBeReplayed};
 ghost use Rattle.report_run.specs.Reports.{HasEachReading, IsReadBack, book_register};
 ghost use Rattle.book_words.specs.Answers.{IsLegal};
 ghost use Rattle.standby_hall.specs.Shipments.{shipment};
 ghost use Rattle.hall_alone.specs.Calls.{reported, prove_stop, ProvesInput, SaysAll};
 
+use acts_run::print_acts;
 use book_store::Store;
 use book_words::Name;
 use disk_core::{Disk, Sink, Source};
@@ -125,6 +128,24 @@ pub fn list<K: Sink, D: Disk>(
 {
     RunEnd {
         stop: print_list(alloc, &store, limit, output),
+        store,
+    }
+}
+
+/// Writes the book of a store as text, from behind so many rows on. The store stays as it is.
+pub fn acts<K: Sink, D: Disk>(
+    alloc: Global,
+    store: Store<D>,
+    after: u32,
+    output: &mut K,
+) -> RunEnd<D>
+    ensures says { SaysText (output_at K.Sink output.old) (output_at K.Sink output.new)
+        (acts_text after (entries_of store)) result.stop }
+    ensures replays { CanBeReplayed after (entries_of store) }
+    ensures store { result.store ≡ store }
+{
+    RunEnd {
+        stop: print_acts(alloc, &store, after, output),
         store,
     }
 }

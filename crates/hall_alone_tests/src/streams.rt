@@ -1,6 +1,6 @@
 use crate::halls::{book_of, ends_of, only};
 use crate::texts::{
-    CLOSED, FIVE_ROWS, LISTED, OLD_JOURNAL, ONE_SHIPPED, PAPER, PAPER_READ, REGISTER, SHEET,
+    ACTS, CLOSED, FIVE_ROWS, LISTED, OLD_JOURNAL, ONE_SHIPPED, PAPER, PAPER_READ, REGISTER, SHEET,
     THREE_ANSWERED, THREE_PACKS, TWO, TWO_ACTS, TWO_ANSWERED, TWO_TRIED,
 };
 use disk_core::{MemorySink, MemorySource, QuietSink, QuietSource};
@@ -116,7 +116,7 @@ const OF_NOTHING: [Run; 40] = [
 ];
 
 // Over a book of ten rows. An import alone reads.
-const OF_TEN_ROWS: [Run; 15] = [
+const OF_TEN_ROWS: [Run; 18] = [
     (&["report", "--batch=A"], b"", (1, 0, 0), SHEET, 0, 10),
     (
         &["report", "--batch=B"],
@@ -157,6 +157,9 @@ const OF_TEN_ROWS: [Run; 15] = [
     (&["report"], b"", (1, 1, 0), "", 5, 10),
     (&["list", "--limit=11"], b"", (1, 0, 0), LISTED, 0, 10),
     (&["list"], b"", (1, 1, 0), "", 5, 10),
+    (&["acts", "--after=5"], b"", (1, 0, 0), ACTS, 0, 10),
+    (&["acts", "--after=10"], b"", (1, 0, 0), "", 0, 10),
+    (&["acts"], b"", (1, 1, 0), "", 5, 10),
     (&["import"], TWO_ACTS, (1, 0, 0), "read fault\n", 4, 10),
     (&["import"], TWO_ACTS, (2, 0, 0), "read fault\n", 4, 10),
     (&["import"], TWO_ACTS, (1, 1, 0), "", 4, 10),
@@ -245,12 +248,13 @@ const CUT_RUNS: [Cut; 12] = [
 ];
 
 // Over a book of ten rows.
-const CUT_PRINTS: [Cut; 6] = [
+const CUT_PRINTS: [Cut; 7] = [
     (&["report"], b"", 0, "", 5, 10),
     (&["report"], b"", 20, "batch A product rice", 5, 10),
     (&["report", "--batch=A"], b"", 7, "batch A", 5, 10),
     (&["report", "--batch=B"], b"", 7, "refused", 5, 10),
     (&["export"], b"", 0, "", 5, 10),
+    (&["acts", "--after=8"], b"", 10, "9 ok\tscrip", 5, 10),
     (
         &["export"],
         b"",

@@ -34,6 +34,12 @@ pub const LISTED: &str = "day 2025-03-03\n\
 product rice250 nominal 250.000 g tare 12.000\n\
 batch A product rice250 state running population 1\nlane 1 batch A\nrows 10 left 1\n";
 
+/// The five rows behind the first five, as text.
+pub const ACTS: &str = "6 pass\tscript\tweigh 1 243.000 none\n\
+7 ok\tscript\ttare rice250 2025-03-03 12.000\n\
+8 reject held\tscript\tweigh 1 260.000 opened\n9 ok\tscript\tvoid 6\n\
+10 pass\tscript\tweigh 1 260.000 none\n";
+
 /// Their register.
 pub const REGISTER: &str = "\
 pack,batch,product,lane,day,gross,net,class,signal,pile

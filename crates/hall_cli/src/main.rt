@@ -7,10 +7,12 @@ ghost use Rattle.std.specs.Process.{exit_status};
 ghost use Rattle.hall_limits.specs.declared.TheConstants.{MAX_LANE, MAX_DOOR};
 ghost use Rattle.command_line.specs.Words.{bytes_of, wanted_of};
 
-use bad_lines::{KeptInput, KeptOutput, WatchedPlan, explain};
+use bad_lines::{KeptInput, KeptOutput, WatchedPlan, explain, explain_words};
 use command_line::{Command, Wants, WantsError, wants, words};
 use disk_core::{Disk, Door, Sink, Source, StdSink, StdSource};
-use hall_devices::{Waiting, input_kind, lock_cells, open_disk, open_doors, open_lanes};
+use hall_devices::{
+    Unopened, Waiting, find_stop, input_kind, lock_cells, open_disk, open_doors, open_lanes,
+};
 use hall_top::{Ending, MountError, end_unopened, end_without_memory, hall};
 use lane_worker::{Cell, EitherCell, Gate, Lane, PairLane};
 use run_notices::RunNotices;
@@ -19,6 +21,18 @@ use std::io::{IsTerminal, Write};
 use std::process::ExitCode;
 use std::sync::Wait;
 use std::thread::Threads;
+use stop_file::StopFile;
+
+// What the program and the books that it writes are called, for people.
+const VERSION: &str = "0.2, books of version 2";
+
+// The end of a call whose devices aren't there: nothing was done.
+fn end_without<K: Sink>(why: Unopened, output: &mut K) -> ExitCode {
+    ExitCode::from(match why {
+        Unopened::NoMemory => end_without_memory(output),
+        Unopened::NoPort => end_unopened(Ending::Unopened(MountError::DiskFault), output),
+    })
+}
 
 // Does what the words say over a disk, with these lanes and doors: the call of `hall`, whose
 // contract says what that does. What people should know of the rows is said, and the exit status is
@@ -96,6 +110,7 @@ struct Call<'a, R> {
     rt: &'a HostRuntime,
     words: &'a [String],
     wanted: &'a Wants,
+    stop: &'a StopFile,
 }
 
 // Does a call over the disk of the book that it asks for, with these lanes and doors.
@@ -137,9 +152,9 @@ fn with_lanes<S: Source, K: Sink, L: Lane + Send + Drop, R: AllocGlobal + Thread
     requires few { length lanes.items ≤ MAX_LANE }
     requires unended { S.ended input.old ≡ false }
 {
-    match open_doors(*call.rt, call.wanted) {
+    match open_doors(*call.rt, call.wanted, call.stop) {
         Ok(doors) => with_doors(call, input, output, lanes, doors),
-        Err(_) => ExitCode::from(end_without_memory(output)),
+        Err(why) => end_without(why, output),
     }
 }
 
@@ -176,9 +191,9 @@ fn with_folder<S: Source, K: Sink, R: AllocGlobal + Threads + Wait + Sync>(
         let ending = Ending::Unopened(MountError::DiskFault);
         return ExitCode::from(end_unopened(ending, output));
     };
-    match open_lanes(call.rt, call.wanted) {
+    match open_lanes(call.rt, call.wanted, call.stop) {
         Ok(lanes) => with_parts(call, input, output, lanes),
-        Err(_) => ExitCode::from(end_without_memory(output)),
+        Err(why) => end_without(why, output),
     }
 }
 
@@ -193,8 +208,31 @@ fn do_call<W: Write + Drop, R: AllocGlobal + Threads + Wait + Sync>(
     let mut read = KeptInput::new(rt.alloc(), Waiting::to_read(rt.stdin()), kind);
     let mut input = StdSource::new(WatchedPlan::new(&mut read, rt, is_plan));
     let status = with_folder(call, &mut input, &mut StdSink::new(&mut *said));
-    explain(&rt, rt.alloc(), &read, said);
+    explain(&rt, rt.alloc(), &read, said, call.wanted.lanes);
     status
+}
+
+// Does what the words want.
+fn do_wanted<W: Write + Drop, R: AllocGlobal + Threads + Wait + Sync>(
+    threads: &R,
+    rt: &HostRuntime,
+    words: &[String],
+    wanted: &Wants,
+    said: &mut KeptOutput<W>,
+) -> ExitCode {
+    match find_stop(rt, wanted) {
+        Ok(stop) => {
+            let call = Call {
+                threads,
+                rt,
+                words,
+                wanted,
+                stop: &stop,
+            };
+            do_call(&call, said)
+        }
+        Err(why) => end_without(why, &mut StdSink::new(said)),
+    }
 }
 
 // Does what the words say, where they are words of the program.
@@ -205,20 +243,12 @@ fn do_words<W: Write + Drop, R: AllocGlobal + Threads + Wait + Sync>(
     said: &mut KeptOutput<W>,
 ) -> ExitCode {
     match wants(rt.alloc(), words) {
-        Ok(wanted) => {
-            let call = Call {
-                threads,
-                rt,
-                words,
-                wanted: &wanted,
-            };
-            do_call(&call, said)
-        }
+        Ok(wanted) => do_wanted(threads, rt, words, &wanted, said),
         Err(WantsError::NoMemory) => ExitCode::from(end_without_memory(&mut StdSink::new(said))),
-        Err(WantsError::Usage) => ExitCode::from(end_unopened(
-            Ending::Usage,
-            &mut StdSink::new(said),
-        )),
+        Err(WantsError::Usage) => {
+            explain_words(rt, VERSION, words);
+            ExitCode::from(end_unopened(Ending::Usage, &mut StdSink::new(said)))
+        }
     }
 }
 

@@ -37,6 +37,7 @@ fn reads_alone(command: Command) -> bool {
             | Command::Ship
             | Command::Paper
             | Command::Audit
+            | Command::Acts
     )
 }
 
@@ -72,9 +73,18 @@ fn lacks_memory(disk: &FileDisk<HostRuntime>) -> bool {
     }
 }
 
+// A disk that tells how many rows are left while lanes and doors are at work at once.
+fn with_rows_left(disk: FileDisk<HostRuntime>, wanted: &Wants) -> FileDisk<HostRuntime> {
+    let mut disk = disk;
+    if wanted.command == Command::Serve {
+        disk.tell_rows_left(wanted.limit);
+    }
+    disk
+}
+
 /// The disk that the words ask for: the file of the book, or one in memory. Standard error says why
 /// the file can't be opened, which makes a disk that fails, and how it was opened where it isn't
-/// simply there.
+/// simply there; and that a command which adds nothing has no book.
 ///
 /// # Errors
 ///
@@ -85,12 +95,15 @@ pub fn open_disk(
     at_terminal: bool,
 ) -> Result<FileDisk<HostRuntime>, AllocError> {
     let Some(path) = &wanted.book else {
+        if reads_alone(wanted.command) {
+            let _ = eprintln!(rt; "hall: without --book this is of an empty book");
+        }
         let disk = memory_disk(rt.alloc(), room(wanted))?;
-        return Ok(FileDisk::in_memory(rt, disk));
+        return Ok(with_rows_left(FileDisk::in_memory(rt, disk), wanted));
     };
     let disk = open_book(rt, wanted.command, path.as_str(), at_terminal);
     if lacks_memory(&disk) {
         return Err(AllocError);
     }
-    Ok(disk)
+    Ok(with_rows_left(disk, wanted))
 }

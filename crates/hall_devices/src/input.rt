@@ -7,6 +7,7 @@ pub fn input_kind(command: Command) -> Kind {
         Command::Run => Kind::Script,
         Command::Import => Kind::Table,
         Command::Serve => Kind::Plan,
+        Command::Prove => Kind::Paper,
         _ => Kind::Other,
     }
 }

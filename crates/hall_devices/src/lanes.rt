@@ -2,41 +2,52 @@ ghost use Rattle.std.specs.Prelude.{◌≡◌, length, min, IfOk, IsSome};
 ghost use Rattle.hall_limits.specs.declared.TheConstants.{MAX_LANE};
 
 use crate::doors::open_door;
-use command_line::Wants;
+use crate::port_cell::PortCell;
+use crate::scale_door::ScaleDoor;
+use crate::unopened::Unopened;
+use command_line::{Command, Wants};
 use hall_limits::MAX_LANE;
 use lane_files::{FileCell, FileGate, FolderLock, ToldCell, file_cell, file_gate, lock_folder};
 use lane_worker::{EitherCell, PairLane};
-use remote_cell::RemoteCell;
-use std::alloc::AllocError;
-use tcp_door::{Manners, TcpDoor};
+use stop_file::StopFile;
+use tcp_door::Manners;
 
 /// How many connections the cell of a lane takes from its scale.
 const MAX_CELL_CONNECTIONS: u32 = 1_000;
 
 /// A cell that hears its scale at a port.
-type PortCell<'a> = ToldCell<RemoteCell<TcpDoor<HostRuntime>>, &'a HostRuntime>;
+type ToldPort<'a> = ToldCell<PortCell, &'a HostRuntime>;
 
 /// A cell that reads a file, or that hears its scale at a port.
-type HallCell<'a> = EitherCell<FileCell<'a, HostRuntime>, PortCell<'a>>;
+type HallCell<'a> = EitherCell<FileCell<'a, HostRuntime>, ToldPort<'a>>;
 
 /// A lane of the program. Its gate is a file.
 pub type HallLane<'a> = PairLane<HallCell<'a>, FileGate<'a, HostRuntime>>;
 
 // The cell of a lane: it hears its scale at a port that rises from that of the first, where the words
-// have one, and else it reads a file of the folder.
+// have one, and else it reads a file of the folder. Where a port can't be had `serve` has no lane;
+// in a run the cell fails when it is worked.
 fn open_cell<'a>(
     rt: &'a HostRuntime,
     wanted: &Wants,
-    folder: &str,
+    stop: &StopFile,
     place: u8,
-) -> Result<HallCell<'a>, AllocError> {
+) -> Result<HallCell<'a>, Unopened> {
+    let at_door = stop.again(rt.alloc())?;
+    let stop = stop.again(rt.alloc())?;
     let Some(first) = wanted.remote else {
-        return Ok(EitherCell::One(file_cell(rt.alloc(), rt, folder, place.saturating_add(1))?));
+        let number = place.saturating_add(1);
+        let cell = file_cell(rt.alloc(), rt, folder_of(wanted), number, stop)?;
+        return Ok(EitherCell::One(cell));
     };
     let port = first.saturating_add(u16::from(place));
-    let door = open_door(*rt, port, MAX_CELL_CONNECTIONS, Manners::SCALE);
+    let door = open_door(*rt, port, MAX_CELL_CONNECTIONS, Manners::SCALE, at_door);
+    if wanted.command == Command::Serve && door.listen_error().is_some() {
+        return Err(Unopened::NoPort);
+    }
     let name = format!(in rt.alloc(); "port {port}")?;
-    Ok(EitherCell::Other(ToldCell::new(RemoteCell::new(door), rt, name)))
+    let cell = PortCell::new(ScaleDoor::new(door, *rt, port), stop);
+    Ok(EitherCell::Other(ToldCell::new(cell, rt, name)))
 }
 
 // The folder of the lanes' files.
@@ -45,6 +56,24 @@ fn folder_of(wanted: &Wants) -> &str {
         Some(path) => path.as_str(),
         None => ".",
     }
+}
+
+/// The file of the lanes' folder by which somebody asks that `serve` end in good order; no other
+/// command looks for one. Where it is there already, standard error says so.
+///
+/// # Errors
+///
+/// `Unopened` where there is no memory for its path.
+pub fn find_stop(rt: &HostRuntime, wanted: &Wants) -> Result<StopFile, Unopened> {
+    if wanted.command != Command::Serve {
+        return Ok(StopFile::none());
+    }
+    let folder = folder_of(wanted);
+    let stop = StopFile::in_folder(rt.alloc(), folder)?;
+    if stop.is_there() {
+        let _ = eprintln!(rt; "hall: {folder}/stop is there: the hall ends in good order at once");
+    }
+    Ok(stop)
 }
 
 /// Locks the folder of the lanes' files, where there are lanes. None where another hall has it, which
@@ -63,22 +92,36 @@ pub fn lock_cells(rt: &HostRuntime, wanted: &Wants) -> Option<FolderLock>
 fn open_lane<'a>(
     rt: &'a HostRuntime,
     wanted: &Wants,
+    stop: &StopFile,
     place: u8,
-) -> Result<HallLane<'a>, AllocError> {
-    let folder = folder_of(wanted);
-    let cell = open_cell(rt, wanted, folder, place)?;
-    let gate = file_gate(rt.alloc(), rt, folder, place.saturating_add(1))?;
+) -> Result<HallLane<'a>, Unopened> {
+    let cell = open_cell(rt, wanted, stop, place)?;
+    let number = place.saturating_add(1);
+    let stop = stop.again(rt.alloc())?;
+    let gate = file_gate(rt.alloc(), rt, folder_of(wanted), number, stop)?;
     Ok(PairLane::new(cell, gate))
 }
 
-/// The lanes that the words ask for.
-pub fn open_lanes<'a>(rt: &'a HostRuntime, wanted: &Wants) -> Result<Vec<HallLane<'a>>, AllocError>
+/// The lanes that the words ask for. Their cells end where the file is there by which somebody asks
+/// for that, and gates that would wait fail.
+///
+/// # Errors
+///
+/// `Unopened` where there is no memory, or, of `serve`, a port of a cell can't be had.
+pub fn open_lanes<'a>(
+    rt: &'a HostRuntime,
+    wanted: &Wants,
+    stop: &StopFile,
+) -> Result<Vec<HallLane<'a>>, Unopened>
     ensures { IfOk result (λ lanes. length lanes.items ≡ min wanted.now.lanes MAX_LANE) }
 {
     let count = wanted.lanes.min(MAX_LANE);
     let mut lanes = Vec::with_capacity(rt.alloc(), usize::from(count))?;
     for place in 0..count {
-        lanes.push(open_lane(rt, wanted, place)?)?;
+        let lane = open_lane(rt, wanted, stop, place)?;
+        if lanes.push(lane).is_err() {
+            return Err(Unopened::NoMemory);
+        }
     }
     Ok(lanes)
 }

@@ -11,10 +11,17 @@ mod disk;
 mod doors;
 mod input;
 mod lanes;
+mod port_cell;
+mod scale_door;
+mod scale_lines;
+mod unopened;
 mod waiting;
 
 pub use disk::open_disk;
 pub use doors::open_doors;
 pub use input::input_kind;
-pub use lanes::{HallLane, lock_cells, open_lanes};
+pub use lanes::{HallLane, find_stop, lock_cells, open_lanes};
+pub use port_cell::PortCell;
+pub use scale_door::ScaleDoor;
+pub use unopened::Unopened;
 pub use waiting::Waiting;

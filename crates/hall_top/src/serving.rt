@@ -15,7 +15,7 @@ use book_store::Store;
 use disk_core::{Disk, Door, Sink, Source};
 use hall_alone::{Ended, Ending, end_call, leave_unopened, say_last};
 use lane_worker::Lane;
-use serve_run::{ServeEnd, SetupNotices, run_serve};
+use serve_run::{JobNotices, ServeEnd, SetupNotices, run_serve};
 use std::alloc::Global;
 use std::sync::Wait;
 use std::thread::Threads;
@@ -24,7 +24,7 @@ use std::thread::Threads;
 fn serve_store<
     S: Source,
     K: Sink,
-    N: SetupNotices,
+    N: SetupNotices + JobNotices + Sync,
     D: Disk + Send,
     L: Lane + Send + Drop,
     O: Door + Send + Drop,
@@ -85,7 +85,7 @@ fn serve_store<
 pub fn serve<
     S: Source,
     K: Sink,
-    N: SetupNotices,
+    N: SetupNotices + JobNotices + Sync,
     D: Disk + Send,
     L: Lane + Send + Drop,
     O: Door + Send + Drop,

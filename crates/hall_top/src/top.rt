@@ -14,7 +14,7 @@ use command_line::wants;
 use disk_core::{Disk, Door, Sink, Source};
 use hall_alone::{Ended, end_answer, is_serve};
 use lane_worker::Lane;
-use serve_run::SetupNotices;
+use serve_run::{JobNotices, SetupNotices};
 use std::alloc::Global;
 use std::sync::Wait;
 use std::thread::Threads;
@@ -30,7 +30,8 @@ use std::thread::Threads;
 /// goes on behind a lane that ended early, unless the disk failed or there was no memory.
 ///
 /// `serve` reads a plan to its end and asks its setup, a script of which nothing is printed; which
-/// of its lines are refused is told to `notices`, as nothing is by other commands. Then all
+/// of its lines are refused is told to `notices`, as nothing is by other commands; so is how each
+/// lane and door ends, as it does. Then all
 /// lanes and all doors that are handed in are at work at once, each lane on its own batch, each act
 /// answered by the one book; when the last has ended, and where rows were added, a snapshot is kept,
 /// and each lane's line, each door's line and the summary are printed. The plan names a batch for
@@ -59,6 +60,11 @@ use std::thread::Threads;
 /// `migrate` does; the row is bad, too, which the book lacks before the first that was shipped, and
 /// the one behind the last where anything follows it.
 ///
+/// `list` reads nothing and prints what is in force: the newest day, products with their tares,
+/// batches, lanes and desks. `audit` reads nothing, opens no book and writes nothing to the disk: it
+/// compares the two copies of each row, where the disk has both, and prints the fingerprint of the
+/// rows. Both leave the rows as they are.
+///
 /// `paper` reads nothing and writes the paper of a closed batch, all that its verdict rests on, or
 /// the line of its refusal. `prove` reads a paper and says its verdict where it is true; line N is
 /// bad where the paper's first fault is there, and line 0 where the input is longer than a paper.
@@ -81,12 +87,13 @@ use std::thread::Threads;
 ///
 /// Where several hold, the least is answered, but 7 comes last.
 ///
-/// At each status the rows that the disk held stand first among the rows, and a crash at any moment
-/// leaves them. The end of the input wasn't given before, and nothing is read after it.
+/// Where the disk was opened as a book, the rows that it held stand first among the rows, and a crash
+/// at any moment leaves them; where it wasn't, or was audited, there are no rows. The end of the input
+/// wasn't given before, and nothing is read after it.
 pub fn hall<
     S: Source,
     K: Sink,
-    N: SetupNotices,
+    N: SetupNotices + JobNotices + Sync,
     D: Disk + Send,
     L: Lane + Send + Drop,
     O: Door + Send + Drop,

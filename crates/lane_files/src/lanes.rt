@@ -7,6 +7,7 @@ use std::alloc::{AllocError, Global};
 use std::fs::{File, OpenOptions};
 use std::io::Eprint;
 use std::rt::Files;
+use stop_file::StopFile;
 
 /// The cell of a lane's number over a file in a folder: it reads `cell-N.txt`. The file is opened
 /// when it is first read; where that fails, and at each call from then on, the cell fails. Standard
@@ -16,12 +17,13 @@ pub fn file_cell<'a, R: Files<File = File> + Eprint>(
     rt: &'a R,
     folder: &str,
     number: u8,
+    stop: StopFile,
 ) -> Result<FileCell<'a, R>, AllocError> {
     let path = format!(in alloc; "{folder}/cell-{number}.txt")?;
     let mut reading = OpenOptions::new();
     reading.read(true);
     let told = format!(in alloc; "{path}")?;
-    let file = LateFile::new(rt, path, reading);
+    let file = LateFile::new(rt, path, reading, stop);
     Ok(ToldLines::new(StdSource::new(file), rt, told))
 }
 
@@ -33,9 +35,11 @@ pub fn file_gate<'a, R: Files<File = File> + Eprint>(
     rt: &'a R,
     folder: &str,
     number: u8,
+    stop: StopFile,
 ) -> Result<FileGate<'a, R>, AllocError> {
     let path = format!(in alloc; "{folder}/gate-{number}.txt")?;
     let mut appending = OpenOptions::new();
     appending.append(true).create(true);
-    Ok(LineGate::new(StdSink::new(LateFile::new(rt, path, appending))))
+    let file = LateFile::new(rt, path, appending, stop);
+    Ok(LineGate::new(StdSink::new(file)))
 }

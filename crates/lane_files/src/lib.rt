@@ -5,7 +5,8 @@
 //! Promised: a file that can't be opened fails at each call, and each call that fails counts one
 //! fault. A cell that tells gives what it would give else.
 //!
-//! Tested: what standard error is told of files and lines, and that two halls don't use one folder.
+//! Tested: what standard error is told of files and lines, that two halls don't use one folder, and
+//! that cells end and gates that would wait fail where somebody asks that the hall end (`stop_file`).
 //!
 //! Trusted: the system's calls, that they read, open, lock and write what they say. A file tells no
 //! bytes, so no clause speaks of what stands in it; what the lines of a cell say and what a gate
@@ -17,6 +18,8 @@ mod kept_source;
 mod lanes;
 mod late_file;
 mod newest_lines;
+mod pipes;
+mod readiness;
 mod reason;
 mod teller;
 mod told_cell;

@@ -11,7 +11,7 @@ use Rattle.annex_tables.specs.declared.types.Mode.TheVariants.{Keep, Destroy}
 use Rattle.book_words.specs.declared.name.Name.{Name}
 use Rattle.book_words.specs.declared.act.Act.{Act}
 use Rattle.book_words.specs.declared.act.Act.TheVariants.{NewDay, PutProduct, PutTare, OpenBatch, Void, EndRun, Draw, Measure, DrawSecond, Close}
-use Rattle.book_words.specs.declared.act.Unit.TheVariants.{Mass}
+use Rattle.book_words.specs.declared.act.Unit.TheVariants.{Mass, Volume}
 use Rattle.book_words.specs.declared.act.Ask.{Ask}
 use Rattle.book_words.specs.declared.act.Want.TheVariants as want
 use Rattle.book_words.specs.Names.{name_of}
@@ -26,7 +26,7 @@ text_at key json = option_and_then as_str (get key json)
 abbrev pub number_at : List ℕ → Data → Option ℕ
 number_at key json = option_and_then as_u64 (option_and_then as_number (get key json))
 
--- a mass in mg: a whole number that 64 bits hold with its sign
+-- a mass in mg, or a volume in microlitres: a whole number that 64 bits hold with its sign
 abbrev pub mass_at : List ℕ → Data → Option ℤ
 mass_at key json = option_and_then as_i64 (option_and_then as_number (get key json))
 
@@ -39,9 +39,9 @@ between least greatest number =
 abbrev pub desk_at : Data → Option ℕ
 desk_at json = option_and_then (between 1 (2 ^ 16 - 1)) (number_at (codes "desk") json)
 
--- the number of a request or of a pack
-abbrev pub number_of_row_at : List ℕ → Data → Option ℕ
-number_of_row_at key json = option_and_then (between 0 (2 ^ 32 - 1)) (number_at key json)
+-- a whole number that 32 bits hold, not negative
+abbrev pub count_at : List ℕ → Data → Option ℕ
+count_at key json = option_and_then (between 0 (2 ^ 32 - 1)) (number_at key json)
 
 -- a name
 abbrev pub name_at : List ℕ → Data → Option Name
@@ -87,6 +87,12 @@ product_act json =
     from_both (λ name nominal. PutProduct name nominal Mass)
     (name_at (codes "name") json) (mass_at (codes "nominal") json)
 
+-- `product_ml`: goods by volume, of so many microlitres
+abbrev pub product_ml_act : Data → Option Act
+product_ml_act json =
+    from_both (λ name nominal. PutProduct name nominal Volume)
+    (name_at (codes "name") json) (mass_at (codes "nominal") json)
+
 abbrev pub tare_act : Data → Option Act
 tare_act json =
     from_three (λ product day tare. PutTare product day tare)
@@ -98,8 +104,15 @@ open_act json =
     from_both (λ batch product. OpenBatch batch product 0)
     (name_at (codes "batch") json) (name_at (codes "product") json)
 
+-- `open_at`: of goods by volume, at a density in mg a litre
+abbrev pub open_at_act : Data → Option Act
+open_at_act json =
+    from_three (λ batch product density. OpenBatch batch product density)
+    (name_at (codes "batch") json) (name_at (codes "product") json)
+    (count_at (codes "density") json)
+
 abbrev pub void_act : Data → Option Act
-void_act json = option_map (λ pack. Void pack) (number_of_row_at (codes "pack") json)
+void_act json = option_map (λ pack. Void pack) (count_at (codes "pack") json)
 
 abbrev pub end_act : Data → Option Act
 end_act json = option_map (λ batch. EndRun batch) (name_at (codes "batch") json)
@@ -112,7 +125,7 @@ draw_act json =
 abbrev pub measure_act : Data → Option Act
 measure_act json =
     from_three (λ pack gross empty. Measure pack gross empty)
-    (number_of_row_at (codes "pack") json) (mass_at (codes "gross") json) (empty_at json)
+    (count_at (codes "pack") json) (mass_at (codes "gross") json) (empty_at json)
 
 abbrev pub second_act : Data → Option Act
 second_act json =
@@ -127,15 +140,17 @@ abbrev pub act_by : List ℕ → Data → Option Act
 act_by word json =
     if bytes_eq word (codes "day") then day_act json
     else (if bytes_eq word (codes "product") then product_act json
+    else (if bytes_eq word (codes "product_ml") then product_ml_act json
     else (if bytes_eq word (codes "tare") then tare_act json
     else (if bytes_eq word (codes "open") then open_act json
+    else (if bytes_eq word (codes "open_at") then open_at_act json
     else (if bytes_eq word (codes "void") then void_act json
     else (if bytes_eq word (codes "end") then end_act json
     else (if bytes_eq word (codes "draw") then draw_act json
     else (if bytes_eq word (codes "measure") then measure_act json
     else (if bytes_eq word (codes "second") then second_act json
     else (if bytes_eq word (codes "close") then close_act json
-    else None)))))))))
+    else None)))))))))))
 
 -- the act of a body
 abbrev pub act_of : Data → Option Act
@@ -145,7 +160,7 @@ act_of json = option_and_then (λ word. act_by word json) (text_at (codes "act")
 abbrev pub ask_of : Data → Option Ask
 ask_of json =
     from_three (λ desk request act. record { desk = desk; request = request; want = want.Act act })
-    (desk_at json) (number_of_row_at (codes "request") json) (act_of json)
+    (desk_at json) (count_at (codes "request") json) (act_of json)
 
 -- the JSON of a text of UTF-8
 abbrev pub json_in : List ℕ → Option Data

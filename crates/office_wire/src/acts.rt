@@ -1,9 +1,9 @@
 ghost use Rattle.std.specs.Prelude.{◌≡◌};
 ghost use Rattle.serde_json.specs.View.{view};
-ghost use Rattle.office_wire.specs.Acts.{act_by, act_of, ask_of, day_act, product_act, tare_act, open_act, void_act, end_act, draw_act, measure_act, second_act, close_act};
+ghost use Rattle.office_wire.specs.Acts.{act_by, act_of, ask_of, day_act, product_act, product_ml_act, tare_act, open_act, open_at_act, void_act, end_act, draw_act, measure_act, second_act, close_act};
 
 use crate::members::{
-    day_at, desk_at, empty_at, mass_at, mode_at, name_at, number_at, number_of_row_at, text_at,
+    count_at, day_at, desk_at, empty_at, mass_at, mode_at, name_at, number_at, text_at,
 };
 use book_words::{Act, Ask, Unit, Want};
 use serde_json::Value;
@@ -13,7 +13,7 @@ pub fn ask_of(json: &Value) -> Option<Ask>
     ensures { result ≡ ask_of (view json.now) }
 {
     let desk = desk_at(json)?;
-    let request = number_of_row_at(json, "request")?;
+    let request = count_at(json, "request")?;
     let act = act_of(json)?;
     Some(Ask {
         desk,
@@ -38,10 +38,14 @@ fn act_by(word: &[u8], json: &Value) -> Option<Act>
         day_act(json)
     } else if word == b"product".as_slice() {
         product_act(json)
+    } else if word == b"product_ml".as_slice() {
+        product_ml_act(json)
     } else if word == b"tare".as_slice() {
         tare_act(json)
     } else if word == b"open".as_slice() {
         open_act(json)
+    } else if word == b"open_at".as_slice() {
+        open_at_act(json)
     } else if word == b"void".as_slice() {
         void_act(json)
     } else if word == b"end".as_slice() {
@@ -80,6 +84,19 @@ fn product_act(json: &Value) -> Option<Act>
     })
 }
 
+// The members of `product_ml`: goods by volume.
+fn product_ml_act(json: &Value) -> Option<Act>
+    ensures { result ≡ product_ml_act (view json.now) }
+{
+    let name = name_at(json, "name")?;
+    let nominal = mass_at(json, "nominal")?;
+    Some(Act::PutProduct {
+        name,
+        nominal,
+        unit: Unit::Volume,
+    })
+}
+
 // The members of `tare`.
 fn tare_act(json: &Value) -> Option<Act>
     ensures { result ≡ tare_act (view json.now) }
@@ -103,11 +120,25 @@ fn open_act(json: &Value) -> Option<Act>
     })
 }
 
+// The members of `open_at`: a batch of goods by volume.
+fn open_at_act(json: &Value) -> Option<Act>
+    ensures { result ≡ open_at_act (view json.now) }
+{
+    let batch = name_at(json, "batch")?;
+    let product = name_at(json, "product")?;
+    let density = count_at(json, "density")?;
+    Some(Act::OpenBatch {
+        batch,
+        product,
+        density,
+    })
+}
+
 // The members of `void`.
 fn void_act(json: &Value) -> Option<Act>
     ensures { result ≡ void_act (view json.now) }
 {
-    let pack = number_of_row_at(json, "pack")?;
+    let pack = count_at(json, "pack")?;
     Some(Act::Void { pack })
 }
 
@@ -133,7 +164,7 @@ fn draw_act(json: &Value) -> Option<Act>
 fn measure_act(json: &Value) -> Option<Act>
     ensures { result ≡ measure_act (view json.now) }
 {
-    let pack = number_of_row_at(json, "pack")?;
+    let pack = count_at(json, "pack")?;
     let gross = mass_at(json, "gross")?;
     let empty = empty_at(json)?;
     Some(Act::Measure { pack, gross, empty })

@@ -1,6 +1,6 @@
 ghost use Rattle.std.specs.Prelude.{◌≡◌, codes, option_map};
 ghost use Rattle.serde_json.specs.View.{view};
-ghost use Rattle.office_wire.specs.Acts.{text_at, number_at, mass_at, desk_at, number_of_row_at, name_at, day_at, mode_in, mode_at, empty_at};
+ghost use Rattle.office_wire.specs.Acts.{text_at, number_at, mass_at, desk_at, count_at, name_at, day_at, mode_in, mode_at, empty_at};
 
 use annex_tables::Mode;
 use book_words::Name;
@@ -22,7 +22,7 @@ pub fn number_at(json: &Value, key: &str) -> Option<u64>
     json.get(key)?.as_u64()
 }
 
-/// A member that is a mass in mg.
+/// A member that is a mass in mg, or a volume in microlitres.
 pub fn mass_at(json: &Value, key: &str) -> Option<i64>
     ensures { result ≡ mass_at key.now (view json.now) }
 {
@@ -40,9 +40,9 @@ pub fn desk_at(json: &Value) -> Option<u16>
     Some(desk as u16)
 }
 
-/// The number of a request or of a pack, 0 to 4 294 967 295.
-pub fn number_of_row_at(json: &Value, key: &str) -> Option<u32>
-    ensures { result ≡ number_of_row_at key.now (view json.now) }
+/// A member that is a whole number, 0 to 4 294 967 295.
+pub fn count_at(json: &Value, key: &str) -> Option<u32>
+    ensures { result ≡ count_at key.now (view json.now) }
 {
     let number = number_at(json, key)?;
     if number > u64::from(u32::MAX) {

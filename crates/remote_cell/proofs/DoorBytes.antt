@@ -77,12 +77,13 @@ went_out : {O E : Type 0} (reads : source.Ghosts O) (writes : sink.Ghosts O)
     → Appends (writes.held old) (writes.held new) bytes
     → connections new ≡ option_map (with_written bytes) (connections old))
     → ((old new : O) → writes.keeps_rest old new → reads.ended new ≡ reads.ended old)
+    → (missed : O → ℕ) → ((old new : O) → writes.keeps_rest old new → missed new ≡ missed old)
     → (old new : O) (text bytes : List ℕ) (result : Result ⊤ E)
     → Appends (writes.held old) (writes.held new) bytes → IsSent text bytes result
     → writes.keeps_rest old new → CountsFault (writes.faults old) (writes.faults new) result
-    → Sends (port reads connections old) (port reads connections new) text result
-went_out reads writes connections one_count adds leaves_end old new text bytes result appended sent
-    rest cause =
+    → Sends (port reads connections missed old) (port reads connections missed new) text result
+went_out reads writes connections one_count adds leaves_end missed misses old new text bytes result
+    appended sent rest cause =
     let before : CountsFault (reads.faults old) (writes.faults new) result =
     subst (λ (n : ℕ). CountsFault n (writes.faults new) result) (one_count old) cause in
     record {
@@ -91,6 +92,7 @@ went_out reads writes connections one_count adds leaves_end old new text bytes r
       connections = adds old new bytes rest appended;
       ended = leaves_end old new rest;
       cause = subst (λ (n : ℕ). CountsFault (reads.faults old) n result) (one_count new) before;
+      missed = misses old new rest;
     }
 
 pub sends : {O : Type 0} (reads : source.Ghosts O) (writes : sink.Ghosts O)
@@ -100,19 +102,20 @@ pub sends : {O : Type 0} (reads : source.Ghosts O) (writes : sink.Ghosts O)
     → Appends (writes.held old) (writes.held new) bytes
     → connections new ≡ option_map (with_written bytes) (connections old))
     → ((old new : O) → writes.keeps_rest old new → reads.ended new ≡ reads.ended old)
+    → (missed : O → ℕ) → ((old new : O) → writes.keeps_rest old new → missed new ≡ missed old)
     → (old new : O) (text : List ℕ) (result : Result ⊤ Partly)
     → OnOk result (Appends (writes.held old) (writes.held new) text)
     → IfErr result (λ (p : Partly). Appends (writes.held old) (writes.held new) (take p.done text))
     → IfErr result (λ (p : Partly). p.done < length text)
     → writes.keeps_rest old new → CountsFault (writes.faults old) (writes.faults new) result
-    → Sends (port reads connections old) (port reads connections new) text result
-sends reads writes connections one_count adds leaves_end old new text (Ok done) whole part less
+    → Sends (port reads connections missed old) (port reads connections missed new) text result
+sends reads writes connections one_count adds leaves_end missed misses old new text (Ok done) whole part less
     rest cause =
-    went_out reads writes connections one_count adds leaves_end old new text text (Ok done)
+    went_out reads writes connections one_count adds leaves_end missed misses old new text text (Ok done)
     whole refl rest cause
-sends reads writes connections one_count adds leaves_end old new text (Err p) whole part less
+sends reads writes connections one_count adds leaves_end missed misses old new text (Err p) whole part less
     rest cause =
-    went_out reads writes connections one_count adds leaves_end old new text (take p.done text)
+    went_out reads writes connections one_count adds leaves_end missed misses old new text (take p.done text)
     (Err p) part (p.done, less, refl) rest cause
 
 -- ---- a line, byte by byte
@@ -137,10 +140,11 @@ reads_more was mid now line byte held read =
 pub reads_whole : (was mid now : Port) (line : List ℕ) (byte : ℕ) → byte ≡ 10
     → has_end line ≡ false → length line ≤ MAX_LINE
     → mid.connections ≡ option_map (with_taken line) was.connections → mid.faults ≡ was.faults
-    → ReadsByte mid now (Ok (Some byte)) → ReadsLine was now line Whole
-reads_whole was mid now line byte is plain few held calm read = record {
+    → ReadsByte mid now (Ok (Some byte)) → now.missed ≡ was.missed → ReadsLine was now line Whole
+reads_whole was mid now line byte is plain few held calm read missed = record {
   plain = plain;
   connections = reads_more was mid now line byte held read
       ∙ ap (λ (b : ℕ). option_map (with_taken (line ++ b ∷ [])) was.connections) is;
   ends = (few, read.1, read.2 ∙ calm);
+  missed = missed;
 }

@@ -674,6 +674,7 @@ ends h all waits connected over knows next is =
       },
       inr (inr (
         refl,
+        refl,
         omega (
           arith,
           knows.lines_are over,

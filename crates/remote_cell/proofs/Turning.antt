@@ -97,6 +97,8 @@ goes_on a b c g h given s t turns j k faults refused given_is turns_is faults_is
       k faults given_is turns_is faults_is);
   faults_are = failed_both a.door.faults b.door.faults c.door.faults (j + 0) (k + refused)
       (faults + refused) (omega (arith, faults_is)) p.faults_are q.faults_are;
+  missed_are = failed_both a.door.missed b.door.missed c.door.missed 0 refused refused
+      (omega arith) p.missed_are q.missed_are;
 }
 
 pub stays : (here : Site) → IsSound here.door here.hearing → Goes here here [] 0 0 0
@@ -106,6 +108,7 @@ stays here sound = record {
       (HasTaken here.hearing.connected here.hearing.connected [] 0 0)
       (none_taken here.hearing.connected);
   faults_are = refl;
+  missed_are = refl;
 }
 
 -- ---- an acknowledgement
@@ -158,6 +161,7 @@ pays door mid h result sound owes sent =
         told = subst (λ (b : Bool). IfBoth door.connections mid.connections
             (HasTaken b (is_ok result) [] 0 (failed result))) (sym connected) told.2;
         faults_are = sent_faults door mid (acknowledgement h.receiver) result sent;
+        missed_are = sent.missed;
       };
       over = refl;
       taken = refl;
@@ -258,6 +262,7 @@ hears_line door mid h text ready connected read =
             (subst (λ (b : Bool). IfBoth door.connections mid.connections
             (HasTaken true b (may_items (item_heard h said)) 1 0)) (sym still) told.2);
         faults_are = read.ends.2;
+        missed_are = read.missed;
       };
       over = text_over h said ready.goes_on;
       owes = text_owes h said ready.paid;
@@ -342,6 +347,7 @@ turns_long door mid h line ready connected read =
         told = subst (λ (a : Bool). IfBoth door.connections mid.connections
             (HasTaken a a [] 0 0)) (sym connected) told.2;
         faults_are = read.ends.2;
+        missed_are = read.missed;
       };
       few = omega arith;
       over = refl;
@@ -355,8 +361,9 @@ turns_long door mid h line ready connected read =
 admitted : (door mid : Port) (h : Hearing) → IsReady (site door h) → h.connected ≡ false
     → mid.connections ≡ option_map next_connections door.connections
     → IfSome mid.connections (λ all. true ≡ is_some all.present) → mid.ended ≡ false
-    → mid.faults ≡ door.faults → Goes (site door h) (site mid (joining h)) [] 1 0 0
-admitted door mid h ready left is found begins calm =
+    → mid.faults ≡ door.faults → mid.missed ≡ door.missed
+    → Goes (site door h) (site mid (joining h)) [] 1 0 0
+admitted door mid h ready left is found begins calm missed =
     let told = lift door.connections mid.connections next_connections
     (λ all. true ≡ is_some all.present) h (joining h) (λ all. ⊤) (HasTaken false true [] 1 0) is
     found ready.sound.told
@@ -370,6 +377,7 @@ admitted door mid h ready left is found begins calm =
       told = subst (λ (a : Bool). IfBoth door.connections mid.connections
           (HasTaken a true [] 1 0)) (sym left) told.2;
       faults_are = calm;
+      missed_are = missed;
     }
   where
     by : (all : Connections) (waiting : List (List ℕ)) → all.waiting ≡ waiting → Knows h all
@@ -390,9 +398,10 @@ pub turns_admitted : (door mid : Port) (h : Hearing) → IsReady (site door h)
     → h.connected ≡ false
     → mid.connections ≡ option_map next_connections door.connections
     → IfSome mid.connections (λ all. true ≡ is_some all.present) → mid.ended ≡ false
-    → mid.faults ≡ door.faults → TurnsTo (site door h) (site mid (joining h)) (Ok None)
-turns_admitted door mid h ready left is found begins calm =
-    let goes = admitted door mid h ready left is found begins calm in (
+    → mid.faults ≡ door.faults → mid.missed ≡ door.missed
+    → TurnsTo (site door h) (site mid (joining h)) (Ok None)
+turns_admitted door mid h ready left is found begins calm missed =
+    let goes = admitted door mid h ready left is found begins calm missed in (
       0,
       goes,
       record { sound = goes.sound; goes_on = ready.goes_on; paid = ready.paid },
@@ -401,9 +410,9 @@ turns_admitted door mid h ready left is found begins calm =
 pub turns_ended : (door mid : Port) (h : Hearing) → IsReady (site door h) → h.connected ≡ false
     → mid.connections ≡ option_map next_connections door.connections
     → IfSome mid.connections (λ all. false ≡ is_some all.present)
-    → mid.faults ≡ door.faults
+    → mid.faults ≡ door.faults → mid.missed ≡ door.missed
     → TurnsTo (site door h) (site mid (spoilt h)) (Ok (Some (bad_behind h)))
-turns_ended door mid h ready left is found calm =
+turns_ended door mid h ready left is found calm missed =
     let told = lift door.connections mid.connections next_connections
     (λ all. false ≡ is_some all.present) h (spoilt h) (Tells h.receiver (bad_behind h))
     (HasTaken false false [] 0 0) is found ready.sound.told
@@ -420,6 +429,7 @@ turns_ended door mid h ready left is found calm =
         told = subst (λ (a : Bool). IfBoth door.connections mid.connections
             (HasTaken a a [] 0 0)) (sym left) told.2;
         faults_are = calm;
+        missed_are = missed;
       };
       few = omega arith;
       over = refl;
@@ -449,8 +459,9 @@ kept_told was now h R is knows by =
 
 pub turns_refused : (door mid : Port) (h : Hearing) (error : Failed) → IsReady (site door h)
     → h.connected ≡ false → mid.connections ≡ door.connections
-    → Counted door.faults mid.faults 1 → TurnsTo (site door h) (site mid h) (Err error)
-turns_refused door mid h error ready left is cause =
+    → Counted door.faults mid.faults 1 → Counted door.missed mid.missed 1
+    → TurnsTo (site door h) (site mid h) (Err error)
+turns_refused door mid h error ready left is cause missed =
     let told = kept_told door.connections mid.connections h
     (HasTaken h.connected h.connected [] 0 0) is ready.sound.told (none_taken h.connected) in
     record {
@@ -463,6 +474,7 @@ turns_refused door mid h error ready left is cause =
         };
         told = told.1;
         faults_are = cause;
+        missed_are = missed;
       };
       over = ready.goes_on;
       paid = ready.paid;
@@ -502,6 +514,7 @@ cut_goes door mid h line faults ready connected read cut many =
       told = subst (λ (a : Bool). IfBoth door.connections mid.connections
           (HasTaken a false [] 0 faults)) (sym connected) told.2;
       faults_are = many;
+      missed_are = read.missed;
     }
 
 -- a connection is left

@@ -51,6 +51,7 @@ pub record Goes (was now : Site) (given : List Item) (turns faults refused : ℕ
   pub told : IfBoth was.door.connections now.door.connections
       (HasTaken was.hearing.connected now.hearing.connected given turns faults)
   pub faults_are : FailedSoOften was.door.faults now.door.faults (faults + refused)
+  pub missed_are : FailedSoOften was.door.missed now.door.missed refused
 
 -- ---- what a call gives
 
@@ -94,13 +95,15 @@ pub record LastSaysNothing (all : Connections) : Type 0 where
   pub says : line_said text ≡ None
 
 -- The next line is bad: it is of neither form; or more bytes have no LF than a line has; or there
--- is no connection more. Its number is one more than that of the whole lines before it.
+-- is no connection more, and none waits. Its number is one more than that of the whole lines before
+-- it.
 abbrev pub IsBadAt : ℕ → Connections → Type 0
 IsBadAt line all =
     (LastSaysNothing all × (line ≡ numbered (length (texts_on (served all)))))
     ⊎ ((length (part_of (taken_now all)) ≡ MAX_LINE + 1)
     × (line ≡ numbered (length (texts_on (served all)) + 1)))
-    ⊎ ((all.present ≡ None) × (line ≡ numbered (length (texts_on (served all)) + 1)))
+    ⊎ ((all.present ≡ None) × (all.waiting ≡ [])
+    × (line ≡ numbered (length (texts_on (served all)) + 1)))
 
 -- what the door tells where this is given: the item is that of the line just read, with the number
 -- of the items taken, and no byte behind its LF was taken

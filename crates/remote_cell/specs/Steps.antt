@@ -56,6 +56,7 @@ pub record ReadsLine (was now : Port) (line : List ℕ) (end : LineEnd) : Type 0
   pub connections : now.connections
       ≡ option_map (with_taken (bytes_of line end)) was.connections
   pub ends : EndsLine was now line end
+  pub missed : now.missed ≡ was.missed
 
 -- what went out of a text that was sent: all of it, or a part
 abbrev pub IsSent : {E : Type 0} → List ℕ → List ℕ → Result ⊤ E → Type 0
@@ -70,6 +71,7 @@ pub record Sends {E : Type 0} (was now : Port) (text : List ℕ) (result : Resul
   pub connections : now.connections ≡ option_map (with_written bytes) was.connections
   pub ended : now.ended ≡ was.ended
   pub cause : CountsFault was.faults now.faults result
+  pub missed : now.missed ≡ was.missed
 
 -- ---- what is heard
 

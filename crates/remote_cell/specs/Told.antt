@@ -77,15 +77,20 @@ left_undone connected all = undone 0 (those_left connected all)
 -- ---- a door and a cell
 
 -- a door at one moment: its connections, where it tells them, whether the end of the present one
--- was given, and how often it failed
+-- was given, how often it failed, and how often it couldn't admit the next connection
 pub record Port : Type 0 where
   pub connections : Option Connections
   pub ended : Bool
   pub faults : ℕ
+  pub missed : ℕ
 
-abbrev pub port : {O : Type 0} → source.Ghosts O → (O → Option Connections) → O → Port
-port reads connections o =
-    record { connections = connections o; ended = reads.ended o; faults = reads.faults o }
+abbrev pub port : {O : Type 0} → source.Ghosts O → (O → Option Connections) → (O → ℕ) → O → Port
+port reads connections missed o = record {
+  connections = connections o;
+  ended = reads.ended o;
+  faults = reads.faults o;
+  missed = missed o;
+}
 
 -- a cell over a door: the door, what it knows of its scale, the faults counted
 pub record RemoteState (O : Type 0) : Type 0 where

@@ -13,7 +13,7 @@ const MAX_ACK: usize = 15;
 
 // Sends a text to the present connection.
 fn send<O: Door>(door: &mut O, text: &[u8]) -> Result<(), Partly>
-    ensures { Sends (port O.Source O.connections door.old) (port O.Source O.connections door.new)
+    ensures { Sends (port O.Source O.connections O.missed door.old) (port O.Source O.connections O.missed door.new)
         text.now result }
 {
     write_all(door, text)
@@ -23,7 +23,7 @@ fn send<O: Door>(door: &mut O, text: &[u8]) -> Result<(), Partly>
 /// line whole.
 #[tactic(auto, unfolding(crate::specs::WireLines::acknowledgement))]
 pub(crate) fn send_acknowledgement<O: Door>(door: &mut O, taken: u32) -> Result<(), Partly>
-    ensures { Sends (port O.Source O.connections door.old) (port O.Source O.connections door.new)
+    ensures { Sends (port O.Source O.connections O.missed door.old) (port O.Source O.connections O.missed door.new)
         (acknowledgement taken) result }
 {
     let mut line = [b'\n'; MAX_ACK];

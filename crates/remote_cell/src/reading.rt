@@ -19,8 +19,9 @@ pub(crate) enum LineEnd {
 // The next byte of the present connection; `None` at its end.
 fn read_byte<O: Door>(door: &mut O) -> Result<Option<u8>, Failed>
     requires { O.ended door.old ≡ false }
-    ensures { ReadsByte (port O.Source O.connections door.old)
-        (port O.Source O.connections door.new) result }
+    ensures reads { ReadsByte (port O.Source O.connections O.missed door.old)
+        (port O.Source O.connections O.missed door.new) result }
+    ensures misses { O.missed door.new ≡ O.missed door.old }
 {
     let mut byte = [0];
     match door.read(&mut byte) {
@@ -35,8 +36,8 @@ fn read_byte<O: Door>(door: &mut O) -> Result<Option<u8>, Failed>
 pub(crate) fn read_line<O: Door>(door: &mut O, line: &mut Held) -> LineEnd
     requires unended { O.ended door.old ≡ false }
     requires empty { line.old ≡ [] }
-    ensures { ReadsLine (port O.Source O.connections door.old)
-        (port O.Source O.connections door.new) line.new result }
+    ensures { ReadsLine (port O.Source O.connections O.missed door.old)
+        (port O.Source O.connections O.missed door.new) line.new result }
 {
     for _place in 0..MAX_HELD {
         match read_byte(door) {

@@ -29,7 +29,7 @@ impl<O: Door> Model for RemoteCell<O> {
 
     ghost view = { λ c. record { door = c.door; hearing = c.hearing; faults = c.faults } };
 
-    ghost invariant = { λ c. IsSound (port O.Source O.connections c.door) c.hearing };
+    ghost invariant = { λ c. IsSound (port O.Source O.connections O.missed c.door) c.hearing };
 }
 
 impl<O: Door> RemoteCell<O> {
@@ -75,12 +75,12 @@ impl<O: Door> Cell for RemoteCell<O> {
     /// admitted, which is `Failed`.
     fn next(&mut self) -> Result<CellNext, Failed>
         ensures cause { CountsFault self.old.faults self.new.faults result }
-        ensures sound { IsSound (port O.Source O.connections self.new.door) self.new.hearing }
+        ensures sound { IsSound (port O.Source O.connections O.missed self.new.door) self.new.hearing }
         ensures over { IfSome self.old.hearing.over (λ item. (result ≡ Ok item)
             × (self.new.door ≡ self.old.door) × (self.new.hearing ≡ self.old.hearing)) }
         ensures heard { self.old.hearing.over ≡ None
-            → HasHeard (site (port O.Source O.connections self.old.door) self.old.hearing)
-            (site (port O.Source O.connections self.new.door) self.new.hearing) result }
+            → HasHeard (site (port O.Source O.connections O.missed self.old.door) self.old.hearing)
+            (site (port O.Source O.connections O.missed self.new.door) self.new.hearing) result }
     {
         let item = next_item(&mut self.door, &mut self.hearing);
         if item.is_err() {

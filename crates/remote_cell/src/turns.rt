@@ -17,9 +17,9 @@ pub const MAX_TURNS: u32 = 1_000_000;
 // Writes the acknowledgement that is owed, if one is. Where that fails, the connection is to be
 // left.
 fn acknowledge<O: Door>(door: &mut O, hearing: &mut Hearing)
-    requires { IsSound (port O.Source O.connections door.old) hearing.old }
-    ensures { Acknowledged (site (port O.Source O.connections door.old) hearing.old)
-        (site (port O.Source O.connections door.new) hearing.new) }
+    requires { IsSound (port O.Source O.connections O.missed door.old) hearing.old }
+    ensures { Acknowledged (site (port O.Source O.connections O.missed door.old) hearing.old)
+        (site (port O.Source O.connections O.missed door.new) hearing.new) }
 {
     if !hearing.owes {
         return;
@@ -41,10 +41,10 @@ fn is_answered(item: Option<CellNext>) -> bool
 
 // Acknowledges what was heard, where that is to be done at once.
 fn answer<O: Door>(door: &mut O, hearing: &mut Hearing, item: Option<CellNext>)
-    requires { IsSound (port O.Source O.connections door.old) hearing.old }
+    requires { IsSound (port O.Source O.connections O.missed door.old) hearing.old }
     ensures { AnsweredIf (is_answered item)
-        (site (port O.Source O.connections door.old) hearing.old)
-        (site (port O.Source O.connections door.new) hearing.new) }
+        (site (port O.Source O.connections O.missed door.old) hearing.old)
+        (site (port O.Source O.connections O.missed door.new) hearing.new) }
 {
     if is_answered(item) {
         acknowledge(door, hearing);
@@ -53,12 +53,12 @@ fn answer<O: Door>(door: &mut O, hearing: &mut Hearing, item: Option<CellNext>)
 
 // Reads the next line of the connection that is present; where none is, the line is cut.
 fn next_line<O: Door>(door: &mut O, hearing: &Hearing, line: &mut Held) -> LineEnd
-    requires sound { IsSound (port O.Source O.connections door.old) hearing.now }
+    requires sound { IsSound (port O.Source O.connections O.missed door.old) hearing.now }
     requires empty { line.old ≡ [] }
     ensures waits { hearing.now.connected ≡ false
         → (result ≡ Cut) × (door.new ≡ door.old) }
-    ensures reads { hearing.now.connected ≡ true → ReadsLine (port O.Source O.connections door.old)
-        (port O.Source O.connections door.new) line.new result }
+    ensures reads { hearing.now.connected ≡ true → ReadsLine (port O.Source O.connections O.missed door.old)
+        (port O.Source O.connections O.missed door.new) line.new result }
 {
     if !hearing.connected {
         return LineEnd::Cut;
@@ -68,10 +68,10 @@ fn next_line<O: Door>(door: &mut O, hearing: &Hearing, line: &mut Held) -> LineE
 
 // Leaves the connection and admits the next.
 fn admit<O: Door>(door: &mut O, hearing: &mut Hearing) -> Result<Option<CellNext>, Failed>
-    requires ready { IsReady (site (port O.Source O.connections door.old) hearing.old) }
+    requires ready { IsReady (site (port O.Source O.connections O.missed door.old) hearing.old) }
     requires left { hearing.old.connected ≡ false }
-    ensures { TurnsTo (site (port O.Source O.connections door.old) hearing.old)
-        (site (port O.Source O.connections door.new) hearing.new) result }
+    ensures { TurnsTo (site (port O.Source O.connections O.missed door.old) hearing.old)
+        (site (port O.Source O.connections O.missed door.new) hearing.new) result }
 {
     match door.next() {
         Ok(true) => {
@@ -86,9 +86,9 @@ fn admit<O: Door>(door: &mut O, hearing: &mut Hearing) -> Result<Option<CellNext
 // Reads a whole line and answers it, or else admits the next connection. Tells what ends the call,
 // if this does.
 fn turn<O: Door>(door: &mut O, hearing: &mut Hearing) -> Result<Option<CellNext>, Failed>
-    requires { IsReady (site (port O.Source O.connections door.old) hearing.old) }
-    ensures { TurnsTo (site (port O.Source O.connections door.old) hearing.old)
-        (site (port O.Source O.connections door.new) hearing.new) result }
+    requires { IsReady (site (port O.Source O.connections O.missed door.old) hearing.old) }
+    ensures { TurnsTo (site (port O.Source O.connections O.missed door.old) hearing.old)
+        (site (port O.Source O.connections O.missed door.new) hearing.new) result }
 {
     let mut line = Held::new();
     match next_line(door, hearing, &mut line) {
@@ -107,13 +107,13 @@ fn turn<O: Door>(door: &mut O, hearing: &mut Hearing) -> Result<Option<CellNext>
 
 /// The next item of a scale, over the connections of a door.
 pub(crate) fn next_item<O: Door>(door: &mut O, hearing: &mut Hearing) -> Result<CellNext, Failed>
-    requires { IsSound (port O.Source O.connections door.old) hearing.old }
-    ensures sound { IsSound (port O.Source O.connections door.new) hearing.new }
+    requires { IsSound (port O.Source O.connections O.missed door.old) hearing.old }
+    ensures sound { IsSound (port O.Source O.connections O.missed door.new) hearing.new }
     ensures over { IfSome hearing.old.over (λ item. (result ≡ Ok item)
         × (door.new ≡ door.old) × (hearing.new ≡ hearing.old)) }
     ensures heard { hearing.old.over ≡ None
-        → HasHeard (site (port O.Source O.connections door.old) hearing.old)
-        (site (port O.Source O.connections door.new) hearing.new) result }
+        → HasHeard (site (port O.Source O.connections O.missed door.old) hearing.old)
+        (site (port O.Source O.connections O.missed door.new) hearing.new) result }
 {
     if let Some(item) = hearing.over {
         return Ok(item);

@@ -6,6 +6,7 @@ use std::alloc::Global;
 use std::io::{Read, Write};
 use std::net::{Ipv4Addr, TcpStream};
 use std::test::Fail;
+use stop_file::StopFile;
 use tcp_door::{Manners, TcpDoor};
 
 // A scale that has said this at a port.
@@ -28,7 +29,7 @@ fn end_over(alloc: Global, door: TcpDoor<HostRuntime>) -> Option<LaneEnd> {
 // A scale whose line is cut behind `2 26` says the second weight again on the next.
 #[test]
 fn a_lane_over_a_port(rt: HostRuntime) -> Result<(), Fail> {
-    let door = TcpDoor::listen(rt.alloc(), rt, 0, 2, Manners::SCALE);
+    let door = TcpDoor::listen(rt.alloc(), rt, 0, 2, Manners::SCALE, StopFile::none());
     let port = door.port().unwrap_or(0);
     let _ = say(rt, port, b"1 260\n2 26")?;
     let mut scale = say(rt, port, b"2 261\n3 end\n")?;

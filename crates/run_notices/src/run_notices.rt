@@ -1,7 +1,11 @@
+use crate::job_lines::{Doors, door_stop, lane_stop};
 use crate::meanings::meaning;
 use batch_reports::refusal_text;
-use book_words::{Act, Entry, Refusal, Refused};
+use book_words::{Act, Entry, Name, Refusal, Refused};
 use command_line::{Command, Wants};
+use lane_worker::{LaneEnd, LaneStop};
+use office_door::DoorEnd;
+use session_jobs::JobNotices;
 use setup_run::SetupNotices;
 use std::alloc::Global;
 use std::io::Eprint;
@@ -15,8 +19,9 @@ const FEW_ROWS: u32 = 50_000;
 // Of a book's rows, the last one in so many are told at each run that adds some.
 const LAST_PART: u32 = 100;
 
-/// What people should know of a run. A refused line of a setup is told always, all else where
-/// standard error is a terminal, and of commands that add rows.
+/// What people should know of a run. A refused line of a setup, and what becomes of lanes and doors
+/// that are at work at once, is told always, all else where standard error is a terminal, and of
+/// commands that add rows.
 #[derive(Drop)]
 pub struct RunNotices<E: Eprint + Drop> {
     errors: E,
@@ -24,7 +29,10 @@ pub struct RunNotices<E: Eprint + Drop> {
     at_terminal: bool,
     adds_rows: bool,
     has_book: bool,
+    is_serving: bool,
     limit: u32,
+    lanes: u8,
+    doors: Doors,
 }
 
 impl<E: Eprint + Drop> RunNotices<E> {
@@ -36,7 +44,10 @@ impl<E: Eprint + Drop> RunNotices<E> {
             at_terminal,
             adds_rows: adds_rows(wanted.command),
             has_book: wanted.book.is_some(),
+            is_serving: wanted.command == Command::Serve,
             limit: wanted.limit,
+            lanes: wanted.lanes,
+            doors: Doors::new(wanted),
         }
     }
 
@@ -49,13 +60,20 @@ impl<E: Eprint + Drop> RunNotices<E> {
         }
     }
 
+    // Says how many rows are left behind a run. While lanes and doors are at work at once the disk
+    // says that.
+    fn say_left(&self, held: u32, count: u32) {
+        if !self.is_serving {
+            say_left(&self.errors, held, count, self.limit);
+        }
+    }
+
     /// Says what should be known of the rows of a book behind a run, of which the first were held
     /// before it.
     pub fn say_rows(&self, held: u32, rows: &[Entry]) {
         if self.at_terminal && self.adds_rows {
             say_days(&self.errors, held as usize, rows);
-            let count = u32::try_from(rows.len()).unwrap_or(u32::MAX);
-            say_left(&self.errors, held, count, self.limit);
+            self.say_left(held, u32::try_from(rows.len()).unwrap_or(u32::MAX));
         }
     }
 }
@@ -119,5 +137,39 @@ impl<E: Eprint + Drop> SetupNotices for RunNotices<E> {
             "hall: line {number} of the setup, {}: {text}: {meaning}",
             line.escape_ascii()
         );
+    }
+}
+
+impl<E: Eprint + Drop> JobNotices for RunNotices<E> {
+    fn begin(&self, rows: u32) {
+        let left = self.limit.saturating_sub(rows);
+        let _ = eprintln!(&self.errors;
+            "hall: serving, lanes {}, {}, rows {rows}, left {left}",
+            self.lanes, self.doors
+        );
+    }
+
+    fn lane_ended(&self, lane: u8, batch: Name, end: LaneEnd) {
+        if let LaneStop::Refused(refused) = end.stop {
+            let (number, name) = (refused.refusal.number(), refused.refusal.name());
+            let _ = eprintln!(&self.errors;
+                "hall: lane {lane}, batch {}: refused {number} {name} at {}",
+                batch.as_bytes().escape_ascii(),
+                refused.at
+            );
+            return;
+        }
+        let mut text = Vec::new(self.alloc);
+        let stop = lane_stop(&end, &mut text);
+        let _ = eprintln!(&self.errors;
+            "hall: lane {lane}, batch {}: {stop}",
+            batch.as_bytes().escape_ascii()
+        );
+    }
+
+    fn door_ended(&self, door: u8, end: DoorEnd) {
+        let mut text = Vec::new(self.alloc);
+        let stop = door_stop(&end, &mut text);
+        let _ = eprintln!(&self.errors; "hall: door {door}: {stop}");
     }
 }

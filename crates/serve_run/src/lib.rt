@@ -4,9 +4,12 @@
 
 mod jobs;
 mod lines;
+mod notices;
 mod prepare;
 mod serve;
 
 pub use job_reports::{DoorEnds, JobsStop, ServeStop};
+pub use notices::NoNotices;
 pub use serve::{ServeEnd, run_serve};
-pub use setup_run::{NoNotices, SetupNotices};
+pub use session_jobs::JobNotices;
+pub use setup_run::SetupNotices;

@@ -28,7 +28,7 @@ use job_reports::{DoorEnds, JobsStop, ServeStop};
 use lane_worker::{Lane, LaneEnd, LaneStop};
 use office_door::{DoorEnd, DoorStop};
 use script_events::LaneEnds;
-use session_jobs::{JobsEnd, Work, run_jobs};
+use session_jobs::{JobNotices, JobsEnd, Work, run_jobs};
 use setup_run::SetupNotices;
 use std::alloc::{AllocError, Global};
 use std::sync::Wait;
@@ -223,6 +223,7 @@ fn finish<K: Sink, D: Disk, L, O>(
 // Runs the jobs of a plan that was prepared.
 fn serve_plan<
     K: Sink,
+    N: JobNotices + Sync,
     D: Disk + Send,
     L: Lane + Send + Drop,
     O: Door + Send + Drop,
@@ -232,6 +233,7 @@ fn serve_plan<
     alloc: Global,
     prepared: Prepared<D>,
     output: &mut K,
+    notices: &N,
     lanes: Vec<L>,
     doors: Vec<O>,
 ) -> ServeEnd<D, L, O>
@@ -260,7 +262,8 @@ fn serve_plan<
     } = room;
     push_lanes(&mut jobs, lanes, planned.as_slice());
     push_doors(&mut jobs, doors);
-    let end = run_jobs(rt, alloc, store, jobs);
+    notices.begin(store.len());
+    let end = run_jobs(rt, alloc, notices, store, jobs);
     if end.ran {
         finish(end, handed, text, output)
     } else {
@@ -308,7 +311,7 @@ fn without_memory<D: Disk>(store: Store<D>) -> Unprepared<D>
 pub fn run_serve<
     S: Source,
     K: Sink,
-    N: SetupNotices,
+    N: SetupNotices + JobNotices + Sync,
     D: Disk + Send,
     L: Lane + Send + Drop,
     O: Door + Send + Drop,
@@ -339,7 +342,7 @@ pub fn run_serve<
     ensures goes { ServeGoes D.Disk store result.store result.stop }
 {
     match prepare(alloc, store, input, notices, lanes.len() as u8) {
-        Ok(prepared) => serve_plan(rt, alloc, prepared, output, lanes, doors),
+        Ok(prepared) => serve_plan(rt, alloc, prepared, output, &*notices, lanes, doors),
         Err(early) => end_early(alloc, early, lanes, doors),
     }
 }

@@ -12,6 +12,7 @@ ghost use Rattle.session_jobs.specs.Runs.{HaveRun, IsUnbegun};
 ghost use Rattle.session_jobs.specs.Works.{number_of, lane_site, door_site};
 
 use crate::crew::employ;
+use crate::notices::JobNotices;
 use crate::session::{Crew, hold};
 use crate::work::Work;
 use book_store::Store;
@@ -91,10 +92,12 @@ fn hold_session<
     D: Disk + Send,
     A: Ledger + Send + Sync,
     B: Ledger + Send + Sync,
+    M: JobNotices + Sync,
     R: Threads + Wait + Sync,
 >(
     rt: &R,
     alloc: Global,
+    notices: &M,
     store: Store<D>,
     jobs: Vec<Work<L, O>>,
     rows: Blank,
@@ -117,7 +120,9 @@ fn hold_session<
         return unbegun(store, jobs);
     };
     let crew = fill(jobs, &turn, &mut seat, room);
-    let (store, jobs, faults) = hold::<L, O, D, A, B, Brand, R>(rt, alloc, store, turn, seat, crew);
+    let (store, jobs, faults) = hold::<L, O, D, A, B, Brand, M, R>(
+        rt, alloc, notices, store, turn, seat, crew,
+    );
     JobsEnd {
         store,
         jobs,
@@ -141,13 +146,14 @@ fn unbegun<D: Disk, L, O>(store: Store<D>, jobs: Vec<Work<L, O>>) -> JobsEnd<D, 
 /// Runs jobs at once over a store in which nothing hangs, each in a thread of its own where one can
 /// be made, and waits for the last of them. Each job is a caller of its own number, whose rows bear
 /// it; all room is taken before the first begins, and where there is none nothing is done. While the
-/// store has room for a row more, a weighing finds memory.
+/// store has room for a row more, a weighing finds memory. How each job ends is told at once.
 pub fn run_jobs<
     L: Lane + Send + Drop,
     O: Door + Send + Drop,
     D: Disk + Send,
+    M: JobNotices + Sync,
     R: Threads + Wait + Sync,
->(rt: &R, alloc: Global, store: Store<D>, jobs: Vec<Work<L, O>>) -> JobsEnd<D, L, O>
+>(rt: &R, alloc: Global, notices: &M, store: Store<D>, jobs: Vec<Work<L, O>>) -> JobsEnd<D, L, O>
     requires sound { IsSound D.Disk store }
     requires calm { ¬ Hangs store }
     requires apart { AllPairs (λ v w. number_of v ≢ number_of w) jobs.items }
@@ -171,5 +177,5 @@ pub fn run_jobs<
 {
     let parts = jobs.len() as u64 + 1;
     let (rows, faults) = (Blank::new(parts), Blank::new(parts));
-    hold_session::<L, O, D, Brand, Brand, R>(rt, alloc, store, jobs, rows, faults)
+    hold_session::<L, O, D, Brand, Brand, M, R>(rt, alloc, notices, store, jobs, rows, faults)
 }

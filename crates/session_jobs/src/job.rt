@@ -1,6 +1,7 @@
 //! A job of a session: a work, and the seat of its caller.
 ghost use Rattle.std.specs.Prelude.{◌≡◌};
 
+use crate::notices::JobNotices;
 use crate::work::Work;
 use disk_core::{Disk, Door};
 use lane_worker::Lane;
@@ -21,11 +22,12 @@ impl<L: Lane, O: Door, A: Ledger, B: Ledger> Job<L, O, A, B> {
     ghost use Rattle.session_jobs.specs.Jobs.{IsReady, IsRun};
 
     /// Runs the job as a caller of the shared book.
-    pub fn run<D: Disk, N: Session, R: Wait>(
+    pub fn run<D: Disk, N: Session, M: JobNotices, R: Wait>(
         &mut self,
         rt: &R,
         alloc: Global,
         shared: &Shared<D, A, B, N>,
+        notices: &M,
     )
         requires ready { IsReady N.Session self.old }
         ensures run { IsRun N.Session (lane_site L.Cell L.Gate) (door_site O.Source O.Door.own)
@@ -33,7 +35,7 @@ impl<L: Lane, O: Door, A: Ledger, B: Ledger> Job<L, O, A, B> {
     {
         if let Some(seat) = self.seat.take() {
             let mut pass = shared.pass(rt, seat);
-            self.work.run(alloc, &mut pass);
+            self.work.run(alloc, &mut pass, notices);
             self.seat = Some(pass.end());
         }
     }

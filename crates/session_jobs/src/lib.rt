@@ -6,8 +6,10 @@
 mod begin;
 mod crew;
 mod job;
+mod notices;
 mod session;
 mod work;
 
 pub use begin::{JobsEnd, run_jobs};
+pub use notices::JobNotices;
 pub use work::{DoorJob, LaneJob, MAX_JOBS, Work};

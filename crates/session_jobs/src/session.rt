@@ -11,6 +11,7 @@ ghost use Rattle.session_jobs.specs.Works.{lane_site, door_site};
 
 use crate::crew::dismiss;
 use crate::job::Job;
+use crate::notices::JobNotices;
 use crate::work::Work;
 use book_store::Store;
 use book_words::Entry;
@@ -40,8 +41,9 @@ fn run_all<
     A: Ledger + Send + Sync,
     B: Ledger + Send + Sync,
     N: Session + Send + Sync,
+    M: JobNotices + Sync,
     R: Threads + Wait + Sync,
->(rt: &R, alloc: Global, shared: &Shared<D, A, B, N>, jobs: &mut [Job<L, O, A, B>])
+>(rt: &R, alloc: Global, shared: &Shared<D, A, B, N>, notices: &M, jobs: &mut [Job<L, O, A, B>])
     requires ready { All (IsReady N.Session) jobs.old }
     ensures run { AllZip (IsRun N.Session (lane_site L.Cell L.Gate)
         (door_site O.Source O.Door.own)) jobs.old jobs.new }
@@ -51,7 +53,7 @@ fn run_all<
         requires { IsReady N.Session job.now }
         ensures { IsRun N.Session (lane_site L.Cell L.Gate) (door_site O.Source O.Door.own)
             job.entry.now job.exit.now }
-    { job.run(rt, alloc, shared) };
+    { job.run(rt, alloc, shared, notices) };
     thread::for_each_mut(rt, jobs, threads, &run);
 }
 
@@ -63,10 +65,12 @@ pub fn hold<
     A: Ledger + Send + Sync,
     B: Ledger + Send + Sync,
     N: Session + Send + Sync,
+    M: JobNotices + Sync,
     R: Threads + Wait + Sync,
 >(
     rt: &R,
     alloc: Global,
+    notices: &M,
     store: Store<D>,
     turn: Turn<Entry, A, B>,
     seat: BookSeat<Entry, A, B>,
@@ -90,7 +94,7 @@ pub fn hold<
         ends,
     } = crew;
     let shared = Shared::<D, A, B, N>::new(store, turn, seat);
-    run_all(rt, alloc, &shared, jobs.as_mut_slice());
+    run_all(rt, alloc, &shared, notices, jobs.as_mut_slice());
     let (works, ends) = dismiss(jobs, works, ends);
     let Closed { store, faults } = shared.close(ends);
     (store, works, faults)

@@ -1,6 +1,7 @@
 //! What a job does.
 ghost use Rattle.std.specs.Prelude.{◌≡◌};
 
+use crate::notices::JobNotices;
 use book_words::{Caller, Name};
 use disk_core::Door;
 use hall_limits::{MAX_DOOR, MAX_LANE};
@@ -60,8 +61,13 @@ impl<L: Lane, O: Door> Work<L, O> {
     ghost use Rattle.lane_worker.specs.Works.{BreaksAt};
     ghost use Rattle.session_jobs.specs.Works.{lane_site, door_site, IsDone};
 
-    // Does the work for a caller of the book.
-    pub(crate) fn run<C: Caller>(&mut self, alloc: Global, caller: &mut C)
+    // Does the work for a caller of the book, and says how it ended.
+    pub(crate) fn run<C: Caller, N: JobNotices>(
+        &mut self,
+        alloc: Global,
+        caller: &mut C,
+        notices: &N,
+    )
         ensures done { IsDone (C.later caller.old caller.new)
             (BreaksAt C.Caller caller.old caller.new)
             (lane_site L.Cell L.Gate) (door_site O.Source O.Door.own)
@@ -69,10 +75,14 @@ impl<L: Lane, O: Door> Work<L, O> {
     {
         match self {
             Work::Lane(job) => {
-                job.end = Some(run_lane(caller, &mut job.lane, job.number, job.batch));
+                let end = run_lane(caller, &mut job.lane, job.number, job.batch);
+                notices.lane_ended(job.number, job.batch, end);
+                job.end = Some(end);
             }
             Work::Door(job) => {
-                job.end = Some(serve_door(alloc, caller, &mut job.door));
+                let end = serve_door(alloc, caller, &mut job.door);
+                notices.door_ended(job.number, end);
+                job.end = Some(end);
             }
         }
     }

@@ -1,11 +1,14 @@
 -- What contracts see of a door over TCP.
 use Rattle.std.specs.Prelude.{ℕ, Bool, true, false, nat_lt, Result, Ok, Err}
 
--- whether it listens; how many connections it still awaits; whether one is present, and whether
+-- whether it listens; whether it may be asked to end, and whether it has ended so; how many
+-- connections it still awaits; whether one is present, and whether
 -- bytes of it were read since the last write; whether its end was given; the faults counted, and
 -- those of `next` among them
 pub record OpenDoor : Type 0 where
   pub listens : Bool
+  pub may_stop : Bool
+  pub has_stopped : Bool
   pub awaited : ℕ
   pub is_present : Bool
   pub in_request : Bool

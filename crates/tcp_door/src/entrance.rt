@@ -1,4 +1,4 @@
-ghost use Rattle.std.specs.Prelude.{◌≡◌, ◌<◌, ◌≤◌, length, IfOk};
+ghost use Rattle.std.specs.Prelude.{◌≡◌, ◌<◌, ◌≤◌, true, length, IfOk, IsNone};
 
 use crate::accepting::{Accepted, accept_from};
 use crate::guests::{Guests, MAX_GUESTS, Turn};
@@ -7,12 +7,19 @@ use crate::links::{LOOK, receive_from, send_to};
 use crate::manners::{Manners, Patience};
 use crate::moments::moment;
 use disk_core::Failed;
+use libc::net::{POLLIN, poll};
+use libc::types::pollfd;
 use std::alloc::Global;
 use std::io;
 use std::io::Eprint;
 use std::net::{Ipv4Addr, Net, TcpListener, TcpStream};
+use std::os::fd::AsRawFd;
 use std::thread::sleep;
 use std::time::{Clock, Duration};
+use stop_file::{LOOK as STOP_LOOK, StopFile};
+
+// For how long a door that is asked to end reads on those that were left, in ms.
+const LAST_LEAVE: u64 = 200;
 
 // No bytes.
 const NOTHING: &[u8] = &[];
@@ -77,6 +84,10 @@ pub(crate) struct Entrance<R: Clock + Eprint + Drop> {
     is_stuck: bool,
     /// Whether that was told.
     is_told: bool,
+    /// Since when somebody is seen to ask that the door end.
+    ending: Option<u64>,
+    /// When a client was answered last.
+    answered: Option<u64>,
 }
 
 // By hand, so that letting one go is one call, where a derived drop is spelled at each exit.
@@ -90,6 +101,8 @@ impl<R: Clock + Eprint + Drop> Drop for Entrance<R> {
             leavers: _,
             is_stuck: _,
             is_told: _,
+            ending: _,
+            answered: _,
         } = self;
     }
 }
@@ -108,6 +121,8 @@ pub(crate) fn open_entrance<
         leavers: Leavers::new(alloc),
         is_stuck: false,
         is_told: false,
+        ending: None,
+        answered: None,
     })
 }
 
@@ -169,18 +184,57 @@ impl<R: Clock + Eprint + Drop> Entrance<R> {
         Ok(())
     }
 
+    // Whether somebody asks that the door end.
+    fn is_asked_to_end(&mut self, stop: &StopFile, now: u64) -> bool
+        ensures { result ≡ true → stop.now ≡ true }
+    {
+        let is_asked = stop.is_there();
+        if is_asked && self.ending.is_none() {
+            self.ending = Some(now);
+        }
+        is_asked
+    }
+
+    // Whether the time is over, in a door that is asked to end, in which clients may ask.
+    fn is_over(&self, now: u64) -> bool {
+        match self.ending {
+            Some(since) => self.manners.ends <= now.saturating_sub(since),
+            None => false,
+        }
+    }
+
+    // Whether who was answered last may still ask for that again.
+    fn lingers(&self, now: u64) -> bool {
+        match self.answered {
+            Some(answered) => now.saturating_sub(answered) < self.manners.lingers,
+            None => false,
+        }
+    }
+
     // Waits for a moment for somebody to do something; where nobody is there, until somebody comes.
-    fn wait(&mut self) -> Result<(), Failed> {
+    fn wait(&mut self, stop: &StopFile) -> Result<(), Failed> {
         if self.is_stuck {
             sleep(&self.rt, Duration::from_millis(LOOK));
         } else if !self.guests.is_empty() {
             self.guests.wait();
         } else if !self.leavers.is_empty() {
             self.leavers.wait();
+        } else if stop.may_come() {
+            self.await_moment();
         } else {
             self.await_one()?;
         }
         Ok(())
+    }
+
+    // Waits for a moment until a connection comes.
+    fn await_moment(&self) {
+        let comes = pollfd {
+            fd: self.listener.as_raw_fd(),
+            events: POLLIN,
+            revents: 0,
+        };
+        let _ = poll(&mut [comes], STOP_LOOK);
     }
 
     // Waits until a connection comes.
@@ -198,14 +252,29 @@ impl<R: Clock + Eprint + Drop> Entrance<R> {
         Ok(())
     }
 
-    /// Waits for the next connection: the first of those there that has asked.
-    pub fn admit(&mut self) -> Result<Visit, Failed> {
+    // The next connection of those there that has asked, where the time to ask isn't over.
+    fn next(&mut self, now: u64) -> Option<Turn> {
+        if self.is_over(now) {
+            return None;
+        }
+        self.guests.next()
+    }
+
+    /// Waits for the next connection: the first of those there that has asked. None where somebody
+    /// asks that the door end, and nobody else has asked.
+    pub fn admit(&mut self, stop: &StopFile) -> Result<Option<Visit>, Failed>
+        ensures { IfOk result (λ visit. IsNone visit → stop.now ≡ true) }
+    {
         for _turn in 0..u64::MAX {
             self.look()?;
-            if let Some(turn) = self.guests.next() {
-                return Ok(Visit::begin(turn, moment(&self.rt)?));
+            let now = moment(&self.rt)?;
+            if let Some(turn) = self.next(now) {
+                return Ok(Some(Visit::begin(turn, now)));
             }
-            self.wait()?;
+            if self.is_asked_to_end(stop, now) && !self.lingers(now) {
+                return Ok(None);
+            }
+            self.wait(stop)?;
         }
         Err(Failed)
     }
@@ -220,13 +289,16 @@ impl<R: Clock + Eprint + Drop> Entrance<R> {
         }
     }
 
-    /// Lets all go: nobody is served any more. Those that were left are read on for as long as ever.
+    /// Lets all go: nobody is served any more. Those that were left are read on for as long as ever,
+    /// or for a moment where somebody asks that the door end.
     pub fn close(&mut self) {
         self.guests.clear();
+        let Ok(began) = moment(&self.rt) else { return };
         for _turn in 0..u64::MAX {
             let Ok(now) = moment(&self.rt) else { return };
             self.leavers.read_on(now);
-            if self.leavers.is_empty() {
+            let is_over = self.ending.is_some() && LAST_LEAVE <= now.saturating_sub(began);
+            if is_over || self.leavers.is_empty() {
                 return;
             }
             self.leavers.wait();
@@ -267,12 +339,35 @@ impl<R: Clock + Eprint + Drop> Entrance<R> {
         Ok(count)
     }
 
+    // Whether a client that has sent nothing for so long is left since somebody asks that the door
+    // end.
+    fn is_left(&mut self, stop: &StopFile, in_request: bool, now: u64, waited: u64) -> bool {
+        if !self.is_asked_to_end(stop, now) {
+            return false;
+        }
+        if in_request {
+            self.is_over(now)
+        } else {
+            self.manners.lingers <= waited
+        }
+    }
+
+    // Whether a client may ask no more: the time for that is over.
+    fn may_not_ask(&mut self, stop: &StopFile, in_request: bool) -> Result<bool, Failed> {
+        if in_request || !stop.may_come() {
+            return Ok(false);
+        }
+        let now = moment(&self.rt)?;
+        Ok(self.is_asked_to_end(stop, now) && self.is_over(now))
+    }
+
     /// Reads the next bytes of a client, and tells how many they are; none at its end, which comes
-    /// also where it is silent for too long between requests. It fails where the link is lost, and
-    /// where a request takes too long.
+    /// also where it is silent for too long between requests, and where somebody asks that the door
+    /// end. It fails where the link is lost, and where a request takes too long.
     pub fn receive(
         &mut self,
         visit: &mut Visit,
+        stop: &StopFile,
         in_request: bool,
         into: &mut [u8],
     ) -> Result<usize, Failed>
@@ -285,6 +380,9 @@ impl<R: Clock + Eprint + Drop> Entrance<R> {
         if early > 0 {
             return self.hear(visit, in_request, moment(&self.rt)?, early);
         }
+        if self.may_not_ask(stop, in_request)? {
+            return Ok(0);
+        }
         for _turn in 0..u64::MAX {
             let tried = receive_from(&mut &visit.link, in_request, into)?;
             let now = moment(&self.rt)?;
@@ -292,6 +390,7 @@ impl<R: Clock + Eprint + Drop> Entrance<R> {
             let waited = now.saturating_sub(visit.since);
             match tried {
                 Some(count) => return self.hear(visit, in_request, now, count),
+                None if self.is_left(stop, in_request, now, waited) => return Ok(0),
                 None if self.waits(in_request, waited)? => {}
                 None => return Ok(0),
             }
@@ -314,6 +413,7 @@ impl<R: Clock + Eprint + Drop> Entrance<R> {
             }
             if let Some(count) = send_to(&visit.link, bytes)? {
                 visit.since = now;
+                self.answered = Some(now);
                 if count == bytes.len() {
                     visit.answering = None;
                 }

@@ -19,6 +19,14 @@ const REQUEST: u64 = 10_000;
 /// which a link has room of its own.
 const RESPONSE: u64 = 10_000;
 
+/// For how long a door that is asked to end still takes what its clients ask, in ms; so they are
+/// answered, and the door ends within a second.
+const ENDS: u64 = 200;
+
+/// For how long one to a scale does, and for how long after an acknowledgement: one that it didn't
+/// get is asked for again by then.
+const SCALE_ENDS: u64 = 500;
+
 /// For how long a door waits for its clients, in ms.
 #[derive(Clone, Copy, PartialEq, Eq)]
 pub struct Manners {
@@ -32,6 +40,10 @@ pub struct Manners {
     pub request: u64,
     /// A response that isn't taken for so long is lost.
     pub response: u64,
+    /// A door that is asked to end takes what is asked for so long.
+    pub ends: u64,
+    /// Then, too, a client is waited for since it was answered for so long.
+    pub lingers: u64,
 }
 
 /// What becomes of a client that is waited for.
@@ -53,6 +65,8 @@ impl Manners {
         silence: Some(SILENCE),
         request: REQUEST,
         response: RESPONSE,
+        ends: ENDS,
+        lingers: 0,
     };
 
     /// Those of a line to a scale, which may be silent between two packs for as long as it likes. One
@@ -63,6 +77,8 @@ impl Manners {
         silence: None,
         request: REQUEST,
         response: RESPONSE,
+        ends: SCALE_ENDS,
+        lingers: SCALE_ENDS,
     };
 
     /// What becomes of a client that is waited for since so many ms: within a request since its first

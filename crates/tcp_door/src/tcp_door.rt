@@ -9,6 +9,7 @@ use std::io::Eprint;
 use std::marker::Model;
 use std::net::{Net, TcpListener, TcpStream};
 use std::time::Clock;
+use stop_file::StopFile;
 
 /// A door over TCP, which listens on 127.0.0.1. It tells no bytes, only its faults: what the
 /// system's calls do is trusted. A door that doesn't listen fails at each call.
@@ -18,8 +19,13 @@ use std::time::Clock;
 /// long a client is waited for. Between requests one that is silent for too long has ended its
 /// connection. From the first byte read since the last write on it is within a request: where that
 /// takes too long, or the response isn't taken, the call fails.
+///
+/// Where somebody asks that it end, it takes what clients have asked by then, for as long as its
+/// manners say; then there is no next connection.
 pub struct TcpDoor<R: Clock + Eprint + Drop> {
     entrance: io::Result<Entrance<R>>,
+    stop: StopFile,
+    has_stopped: bool,
     visit: Option<Visit>,
     awaited: u32,
     in_request: bool,
@@ -33,6 +39,8 @@ impl<R: Clock + Eprint + Drop> Drop for TcpDoor<R> {
     fn drop(self) {
         let Self {
             entrance: _,
+            stop: _,
+            has_stopped: _,
             visit: _,
             awaited: _,
             in_request: _,
@@ -51,6 +59,8 @@ impl<R: Clock + Eprint + Drop> Model for TcpDoor<R> {
 
     ghost view = { λ d. record {
       listens = is_ok d.entrance;
+      may_stop = d.stop;
+      has_stopped = d.has_stopped;
       awaited = d.awaited;
       is_present = is_some d.visit;
       in_request = d.in_request;
@@ -65,11 +75,21 @@ impl<R: Clock + Eprint + Net<Listener = TcpListener, Stream = TcpStream> + Drop>
     ghost use Rattle.tcp_door.specs.OpenDoors.{OpenDoor};
 
     /// Listens at this port for so many connections, which are served one after another, with these
-    /// manners. At port 0 the system picks a port. Where the port can't be had the door doesn't
-    /// listen. It takes room for those who wait, and where there is none takes it as they come.
-    pub fn listen(alloc: Global, rt: R, port: u16, connections: u32, manners: Manners) -> Self
+    /// manners, until the file is there by which somebody asks that it end. At port 0 the system picks
+    /// a port. Where the port can't be had the door doesn't listen. It takes room for those who wait,
+    /// and where there is none takes it as they come.
+    pub fn listen(
+        alloc: Global,
+        rt: R,
+        port: u16,
+        connections: u32,
+        manners: Manners,
+        stop: StopFile,
+    ) -> Self
         ensures { result ≡ record {
           listens = result.listens;
+          may_stop = stop;
+          has_stopped = false;
           awaited = connections;
           is_present = false;
           in_request = false;
@@ -80,6 +100,8 @@ impl<R: Clock + Eprint + Net<Listener = TcpListener, Stream = TcpStream> + Drop>
     {
         TcpDoor {
             entrance: open_entrance(alloc, rt, port, manners),
+            stop,
+            has_stopped: false,
             visit: None,
             awaited: connections,
             in_request: false,
@@ -127,7 +149,7 @@ impl<R: Clock + Eprint + Drop> TcpDoor<R> {
         let Some(visit) = &mut self.visit else {
             return Ok(0);
         };
-        let count = entrance.receive(visit, self.in_request, into)?;
+        let count = entrance.receive(visit, &self.stop, self.in_request, into)?;
         Ok(count)
     }
 
@@ -178,7 +200,9 @@ impl<R: Clock + Eprint + Drop> Source for TcpDoor<R> {
         ensures rest { self.new.missed ≡ self.old.missed }
         ensures kept { (self.new.listens ≡ self.old.listens)
             × (self.new.awaited ≡ self.old.awaited)
-            × (self.new.is_present ≡ self.old.is_present) }
+            × (self.new.is_present ≡ self.old.is_present)
+            × (self.new.may_stop ≡ self.old.may_stop)
+            × (self.new.has_stopped ≡ self.old.has_stopped) }
     {
         let count = self.receive(into);
         match count {
@@ -219,7 +243,9 @@ impl<R: Clock + Eprint + Drop> Sink for TcpDoor<R> {
         ensures cause { CountsFault self.old.faults self.new.faults result }
         ensures kept { (self.new.listens ≡ self.old.listens)
             × (self.new.awaited ≡ self.old.awaited)
-            × (self.new.is_present ≡ self.old.is_present) }
+            × (self.new.is_present ≡ self.old.is_present)
+            × (self.new.may_stop ≡ self.old.may_stop)
+            × (self.new.has_stopped ≡ self.old.has_stopped) }
     {
         let count = self.send(bytes);
         match count {
@@ -258,7 +284,11 @@ impl<R: Clock + Eprint + Drop> Door for TcpDoor<R> {
     fn next(&mut self) -> Result<bool, Failed>
         ensures closed { self.old.listens ≡ false → IsErr result }
         ensures ends { self.old.listens ≡ true → self.old.awaited ≡ 0 → IsOk result }
-        ensures awaited { IfOk result (λ found. IsTrue found ↔ (0 < self.old.awaited)) }
+        ensures awaited { IfOk result (λ found. IsTrue found
+            ↔ ((0 < self.old.awaited) × (self.new.has_stopped ≡ false))) }
+        ensures stops { self.old.may_stop ≡ false
+            → self.new.has_stopped ≡ self.old.has_stopped }
+        ensures may_stop { self.new.may_stop ≡ self.old.may_stop }
         ensures counted { IfOk result (λ found.
             self.new.awaited + one_if found ≡ self.old.awaited) }
         ensures present { IfOk result (λ found. self.new.is_present ≡ found) }
@@ -270,7 +300,13 @@ impl<R: Clock + Eprint + Drop> Door for TcpDoor<R> {
         ensures missed { CountsFault self.old.missed self.new.missed result }
     {
         let visit = self.visit.take();
-        let Ok(visit) = admit(&mut self.entrance, visit, self.awaited) else {
+        let Ok(visit) = admit(
+            &mut self.entrance,
+            &self.stop,
+            visit,
+            self.awaited,
+            &mut self.has_stopped,
+        ) else {
             self.faults = counted_once_more(self.faults);
             self.missed = counted_once_more(self.missed);
             return Err(Failed);

@@ -12,6 +12,8 @@ const QUICK: Manners = Manners {
     silence: Some(1_800),
     request: 900,
     response: 900,
+    ends: 100,
+    lingers: 0,
 };
 
 // As those, to a client that opens with a head.

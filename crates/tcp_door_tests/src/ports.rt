@@ -1,5 +1,6 @@
 use disk_core::{Door, Failed, ListDoor, Sink, Source};
 use std::test::Fail;
+use stop_file::StopFile;
 use tcp_door::{Manners, TcpDoor};
 
 // That a door may go to a thread of its own is said by its type.
@@ -10,7 +11,7 @@ fn may_move<O: Door + Send>(_door: &O) -> bool {
 #[test]
 fn a_door_may_move(rt: HostRuntime) -> Result<(), Fail> {
     let alloc = rt.alloc();
-    let door = TcpDoor::listen(alloc, rt, 0, 1, Manners::OFFICE);
+    let door = TcpDoor::listen(alloc, rt, 0, 1, Manners::OFFICE, StopFile::none());
     let listed = ListDoor::new(alloc, Vec::new(alloc), Vec::new(alloc));
     assert!(rt; may_move(&door) && may_move(&listed));
     Ok(())
@@ -28,10 +29,10 @@ fn fails(door: &mut TcpDoor<HostRuntime>) -> bool {
 
 #[test]
 fn a_port_that_is_taken_fails_at_each_call(rt: HostRuntime) -> Result<(), Fail> {
-    let first = TcpDoor::listen(rt.alloc(), rt, 0, 1, Manners::OFFICE);
+    let first = TcpDoor::listen(rt.alloc(), rt, 0, 1, Manners::OFFICE, StopFile::none());
     assert!(rt; first.listen_error().is_none());
     let port = first.port().unwrap_or(0);
-    let mut second = TcpDoor::listen(rt.alloc(), rt, port, 1, Manners::OFFICE);
+    let mut second = TcpDoor::listen(rt.alloc(), rt, port, 1, Manners::OFFICE, StopFile::none());
     assert!(rt; fails(&mut second));
     Ok(())
 }

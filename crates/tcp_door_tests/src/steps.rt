@@ -5,6 +5,7 @@ use std::net::{Ipv4Addr, Shutdown, TcpStream};
 use std::test::Fail;
 use std::thread::sleep;
 use std::time::{Duration, Instant};
+use stop_file::StopFile;
 use tcp_door::{Manners, TcpDoor};
 
 /// What is done, and what has to come of it. Clients count from 0, in the order of connecting.
@@ -117,7 +118,7 @@ pub fn first_wrong(
 ) -> Result<Option<usize>, Fail> {
     let mut play = Play {
         rt,
-        door: TcpDoor::listen(rt.alloc(), rt, 0, connections, manners),
+        door: TcpDoor::listen(rt.alloc(), rt, 0, connections, manners, StopFile::none()),
         clients: Vec::new(rt.alloc()),
         took: Duration::ZERO,
     };

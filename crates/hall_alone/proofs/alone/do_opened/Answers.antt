@@ -1,4 +1,4 @@
-use Rattle.std.proofs.Common.{inl, inr, refl}
+use Rattle.std.proofs.Common.{inl, inr, refl, sym, ◌∙◌, true≢false}
 use Rattle.command_line.specs.Taken.{seen}
 use Rattle.hall_alone.specs.Calls.{ExplainsCommand}
 use Rattle.text_streams.specs.Streams.{output_at}
@@ -30,11 +30,14 @@ returns-in-Err-clause-ends g c =
     (outside_at g.K.Sink g.L.Cell g.L.Gate c.args.output.now c.args.lanes.now
     c.leave_unopened.result.log.told) in
     let l = c.leave_unopened.ensures in
-    inr (inl (is_unopened g.D.Disk c.args.disk c.in-Err.refused.disk c.in-Err.refused.why
-    c.leave_unopened.result (call_from before now c.leave_unopened.result.rows)
-    c.in-Err.ensures.cause c.in-Err.ensures.held refl
-    (lanes_rest here (output_at g.K.Sink c.args.output.now) c.leave_unopened.result.log.told l.log)
-    l.rows l.disk l.held l.ending))
+    inr (inl record {
+      unopened = is_unopened g.D.Disk c.args.disk c.in-Err.refused.disk c.in-Err.refused.why
+          c.leave_unopened.result (call_from before now c.leave_unopened.result.rows)
+          c.in-Err.ensures.cause c.in-Err.ensures.held refl
+          (lanes_rest here (output_at g.K.Sink c.args.output.now)
+          c.leave_unopened.result.log.told l.log) l.rows l.disk l.held l.ending;
+      unaudited = λ audit. absurd (true≢false (sym audit ∙ c.requires.unaudited));
+    })
 
 pub mount-requires-clause-least : goal.mount-requires-clause-least
 mount-requires-clause-least g c = c.requires.range.least

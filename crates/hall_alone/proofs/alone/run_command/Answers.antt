@@ -4,7 +4,7 @@ use Rattle.book_store.specs.declared.store.Store.{Store}
 use Rattle.book_store.specs.Stores.{entries_of}
 use Rattle.command_line.specs.declared.types.Command.TheVariants.{Run, Report, Export, Check}
 use Rattle.command_line.specs.declared.types.Command.TheVariants.{Import, Trial, Migrate, Ship, Follow}
-use Rattle.command_line.specs.declared.types.Command.TheVariants.{Paper, Prove}
+use Rattle.command_line.specs.declared.types.Command.TheVariants.{Paper, Prove, Acts}
 use Rattle.command_line.specs.declared.types.Command.TheVariants as verb
 use Rattle.command_line.specs.Taken.{seen}
 use Rattle.text_streams.specs.Streams.{output_at}
@@ -14,12 +14,13 @@ use Rattle.store_runs.specs.Runs.{RunGoes}
 use Rattle.store_runs.proofs.StoreSteps.{stays}
 use Rattle.report_run.specs.Reports.{book_register}
 use Rattle.list_run.specs.Texts.{list_text}
+use Rattle.act_lines.specs.ActViews.{acts_text}
 use Rattle.standby_hall.specs.Shipments.{shipment}
 use Rattle.book_words.specs.declared.act.Entry.{Entry}
 use Rattle.hall_alone.specs.Texts.{whole}
 use Rattle.hall_alone.specs.Calls.{reported}
 use Rattle.hall_alone.proofs.OpenedBooks.{call_from, lanes_rest}
-use Rattle.hall_alone.proofs.CommandLemmas.{explains_as, explains_saying, explains_printing, explains_export, is_import, is_trial, ends_migration, ends_following, explains_paper, explains_prove, paper_counts, proving_counts, said_counts, text_counts, carried_goes}
+use Rattle.hall_alone.proofs.CommandLemmas.{explains_as, explains_saying, explains_printing, explains_acts, explains_export, is_import, is_trial, ends_migration, ends_following, explains_paper, explains_prove, paper_counts, proving_counts, said_counts, text_counts, carried_goes}
 use Rattle.hall_alone.proofs.alone.run_command.Goals as goal
 
 pub returns-in-Run-clause-explained : goal.returns-in-Run-clause-explained
@@ -330,4 +331,33 @@ returns-in-List-clause-goes g c =
     (sym c.list.ensures.store)
     (stays g.D.Disk (Err c.list.result.stop) c.args.store
     (text_counts ⊤ _ _ _ _ c.list.result.stop c.list.ensures.says)
+    (λ finished grown calm. absurd (omega (arith, grown, c.requires.opened)))))
+
+pub returns-in-Acts-clause-explained : goal.returns-in-Acts-clause-explained
+returns-in-Acts-clause-explained g c =
+    let here = outside_at g.K.Sink g.L.Cell g.L.Gate c.args.output.now c.args.lanes.now
+    nothing_told in
+    let end = c.without_lanes-in-Acts.result in
+    let now = outside_at g.K.Sink g.L.Cell g.L.Gate c.acts.new.output c.args.lanes.now
+    end.log.told in
+    let call = call_from (devices g.S.Source c.args.input.now here)
+    (devices g.S.Source c.args.input.now now) (entries_of end.store) in
+    let same = ap (λ (s : Store _). entries_of s)
+    (c.without_lanes-in-Acts.ensures.store ∙ c.acts.ensures.store) in
+    explains_as (seen c.args.wanted.now) Acts (stored_book c.args.store) call end.stop
+    c.in-Acts.is (explains_acts c.args.wanted.now.after (stored_book c.args.store) call end.stop
+    (entries_of c.args.store) (explains_printing (acts_text c.args.wanted.now.after)
+    (stored_book c.args.store) call end.stop (entries_of c.args.store) refl
+    (lanes_rest here (output_at g.K.Sink c.acts.new.output) end.log.told
+    c.without_lanes-in-Acts.ensures.log) same
+    (rw c.without_lanes-in-Acts.ensures.stop c.acts.ensures.says) refl) same
+    c.acts.ensures.replays)
+
+pub returns-in-Acts-clause-goes : goal.returns-in-Acts-clause-goes
+returns-in-Acts-clause-goes g c =
+    rw (c.without_lanes-in-Acts.ensures.stop, c.without_lanes-in-Acts.ensures.store)
+    (subst (λ (s : Store _). RunGoes g.D.Disk c.acts.result.stop c.args.store s)
+    (sym c.acts.ensures.store)
+    (stays g.D.Disk (Err c.acts.result.stop) c.args.store
+    (text_counts ⊤ _ _ _ _ c.acts.result.stop c.acts.ensures.says)
     (λ finished grown calm. absurd (omega (arith, grown, c.requires.opened)))))

@@ -2,8 +2,8 @@ use Rattle.std.proofs.Common.{[], ◌∙◌}
 use Rattle.remote_cell.proofs.DoorBytes.{taken_none, keeps_consumes}
 use Rattle.remote_cell.proofs.reading.read_byte.Goals as goal
 
-pub returns-in-Err : goal.returns-in-Err
-returns-in-Err g c =
+pub returns-in-Err-clause-reads : goal.returns-in-Err-clause-reads
+returns-in-Err-clause-reads g c =
     let old = c.args.door.now in
     let new = c.read.new.self in (
       g.met.O.Door.read_adds old new [] c.read.ensures.rest

@@ -12,4 +12,5 @@ invariant-loop-place g l = record {
       ≡ option_map (with_taken l.line) (g.O.Door.connections l.fn.door);
   unended : g.O.Source.ended l.door ≡ false;
   calm : g.O.Source.faults l.door ≡ g.O.Source.faults l.fn.door;
+  missed : g.O.Door.missed l.door ≡ g.O.Door.missed l.fn.door;
 }

@@ -8,14 +8,14 @@ use Rattle.remote_cell.proofs.turns.acknowledge.Goals as goal
 
 pub returns-then-not-hearing : goal.returns-then-not-hearing
 returns-then-not-hearing g c =
-    let here = site (port g.O.Source g.O.Door.connections c.args.door.now) c.args.hearing.now in
+    let here = site (port g.O.Source g.O.Door.connections g.O.Door.missed c.args.door.now) c.args.hearing.now in
     owes_nothing here c.requires (search rules)
 
 pub returns : goal.returns
 returns g c =
     let h = c.args.hearing.now in
-    let old = port g.O.Source g.O.Door.connections c.args.door.now in
-    let new = port g.O.Source g.O.Door.connections c.send_acknowledgement.new.door in
+    let old = port g.O.Source g.O.Door.connections g.O.Door.missed c.args.door.now in
+    let new = port g.O.Source g.O.Door.connections g.O.Door.missed c.send_acknowledgement.new.door in
     let owes : h.owes ≡ true = search rules in
     let sent = subst (λ (n : ℕ). Sends old new (acknowledgement n) c.send_acknowledgement.result)
     c.taken.ensures c.send_acknowledgement.ensures in

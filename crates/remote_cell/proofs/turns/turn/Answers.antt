@@ -8,8 +8,8 @@ use Rattle.remote_cell.proofs.turns.turn.Goals as goal
 pub answer-requires : goal.answer-requires
 answer-requires g c =
     let h = c.args.hearing.now in
-    let old = port g.O.Source g.O.Door.connections c.args.door.now in
-    let mid = port g.O.Source g.O.Door.connections c.next_line.new.door in
+    let old = port g.O.Source g.O.Door.connections g.O.Door.missed c.args.door.now in
+    let mid = port g.O.Source g.O.Door.connections g.O.Door.missed c.next_line.new.door in
     let connected = is_connected h.connected Whole c.in-Whole.ensures.waits (λ is. cc) in
     let heard = heard_by old mid h c.hear-item.new.self c.next_line.new.line c.bytes.result.now
     c.hear-item.result c.bytes.ensures c.hear-item.ensures.after c.hear-item.ensures.item
@@ -19,9 +19,9 @@ answer-requires g c =
 pub returns-in-Whole : goal.returns-in-Whole
 returns-in-Whole g c =
     let h = c.args.hearing.now in
-    let old = port g.O.Source g.O.Door.connections c.args.door.now in
-    let mid = port g.O.Source g.O.Door.connections c.next_line.new.door in
-    let new = port g.O.Source g.O.Door.connections c.answer.new.door in
+    let old = port g.O.Source g.O.Door.connections g.O.Door.missed c.args.door.now in
+    let mid = port g.O.Source g.O.Door.connections g.O.Door.missed c.next_line.new.door in
+    let new = port g.O.Source g.O.Door.connections g.O.Door.missed c.answer.new.door in
     let connected = is_connected h.connected Whole c.in-Whole.ensures.waits (λ is. cc) in
     let heard = heard_by old mid h c.hear-item.new.self c.next_line.new.line c.bytes.result.now
     c.hear-item.result c.bytes.ensures c.hear-item.ensures.after c.hear-item.ensures.item
@@ -32,8 +32,8 @@ returns-in-Whole g c =
 pub returns-in-TooLong : goal.returns-in-TooLong
 returns-in-TooLong g c =
     let h = c.args.hearing.now in
-    let old = port g.O.Source g.O.Door.connections c.args.door.now in
-    let mid = port g.O.Source g.O.Door.connections c.next_line.new.door in
+    let old = port g.O.Source g.O.Door.connections g.O.Door.missed c.args.door.now in
+    let mid = port g.O.Source g.O.Door.connections g.O.Door.missed c.next_line.new.door in
     let connected = is_connected h.connected TooLong c.in-TooLong.ensures.waits (λ is. cc) in
     gives_bad (site old h) mid h c.spoil.new.self c.spoil.result c.spoil.ensures.after
     c.spoil.ensures.item
@@ -43,21 +43,21 @@ returns-in-TooLong g c =
 pub admit-requires-clause-ready : goal.admit-requires-clause-ready
 admit-requires-clause-ready g c =
     let h = c.args.hearing.now in
-    let old = port g.O.Source g.O.Door.connections c.args.door.now in
-    let mid = port g.O.Source g.O.Door.connections c.next_line.new.door in
+    let old = port g.O.Source g.O.Door.connections g.O.Door.missed c.args.door.now in
+    let mid = port g.O.Source g.O.Door.connections g.O.Door.missed c.next_line.new.door in
     let left = leaves old mid h c.next_line.new.line c.requires
-    (λ is. ap (port g.O.Source g.O.Door.connections) (c.in-Cut.ensures.waits is).1)
+    (λ is. ap (port g.O.Source g.O.Door.connections g.O.Door.missed) (c.in-Cut.ensures.waits is).1)
     c.in-Cut.ensures.reads in
     left.ready
 
 pub returns-in-Cut : goal.returns-in-Cut
 returns-in-Cut g c =
     let h = c.args.hearing.now in
-    let old = port g.O.Source g.O.Door.connections c.args.door.now in
-    let mid = port g.O.Source g.O.Door.connections c.next_line.new.door in
-    let new = port g.O.Source g.O.Door.connections c.admit.new.door in
+    let old = port g.O.Source g.O.Door.connections g.O.Door.missed c.args.door.now in
+    let mid = port g.O.Source g.O.Door.connections g.O.Door.missed c.next_line.new.door in
+    let new = port g.O.Source g.O.Door.connections g.O.Door.missed c.admit.new.door in
     let left = leaves old mid h c.next_line.new.line c.requires
-    (λ is. ap (port g.O.Source g.O.Door.connections) (c.in-Cut.ensures.waits is).1)
+    (λ is. ap (port g.O.Source g.O.Door.connections g.O.Door.missed) (c.in-Cut.ensures.waits is).1)
     c.in-Cut.ensures.reads in
     turns_behind (site old h) (site mid (leaving h)) (site new c.admit.new.hearing) c.admit.result
     left c.admit.ensures

@@ -1,0 +1,2 @@
+pub mod ActLines
+pub mod ActViews

@@ -1,0 +1,15 @@
+//! No answer of the book looks at who brought the entries of its list.
+#![tactic(auto)]
+
+ghost use Rattle.caller_laws.specs.Alike.{AreAnsweredAlike, AreLegalAlike};
+
+/// A law, and no work: two lists that differ only in who brought their entries are answered alike,
+/// whatever is asked.
+pub fn answered_alike()
+    ensures { AreAnsweredAlike }
+{}
+
+/// A law, and no work: of two such lists both are legal, or neither.
+pub fn legal_alike()
+    ensures { AreLegalAlike }
+{}

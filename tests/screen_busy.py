@@ -1,0 +1,2 @@
+def run_busy(program, folder, pictures):
+    pass

@@ -1,0 +1,153 @@
+// What needs a person now, in words and in order: what keeps packs from leaving, what would fail,
+// what stands still, what will be full. Drawn above the board, spoken and sounded once.
+
+import { addWords, say } from "./words.js";
+import { ago, count, duration, grams, mass } from "./numbers.js";
+import { icon, make, put } from "./page.js";
+import { laneName, settings } from "./settings.js";
+import { forecastWords } from "./forecastwords.js";
+import { sound } from "./sound.js";
+
+addWords({
+  noAlarm: ["No alarm. Nothing needs a person now.", "Kein Alarm. Gerade braucht nichts jemanden."],
+  more: ["+ {count} more", "+ {count} weitere"],
+  bookFull: ["The book is full: no pack is weighed. Begin the next book",
+    "Das Buch ist voll: keine Packung wird gewogen. Das nächste Buch beginnen"],
+  rowsLow: ["{left} rows left in the book: prepare the next one",
+    "Noch {left} Zeilen im Buch: das nächste vorbereiten"],
+  heldBy: ["{batch} is held: void pack {pack}, or correct the tare",
+    "{batch} gesperrt: Packung {pack} streichen oder Tara ändern"],
+  heldBySome: ["{batch} is held: void the inadequate pack, or correct the tare",
+    "{batch} gesperrt: unzulässige Packung streichen oder Tara ändern"],
+  failAverage: ["{batch}: average {short} short. Next {next} packs: {each} g each",
+    "{batch}: Durchschnitt {short} zu wenig. Nächste {next} Packungen: je {each} g"],
+  failOther: ["{batch} {told}: {why}", "{batch} {told}: {why}"],
+  fullSoon: ["{batch} is full in {time}: open the next batch",
+    "{batch} ist in {time} voll: nächste Charge eröffnen"],
+  allowanceNear: ["{batch}: {used} of {allowed} of the allowance used",
+    "{batch}: {used} von {allowed} erlaubten verbraucht"],
+  silent: ["{lane}: no pack for {time}", "{lane}: seit {time} keine Packung"],
+  idleSince: ["{lane} ({batch}): {why}", "{lane} ({batch}): {why}"],
+  countryOver: ["{batch}: {used} below T1, {name} allows {allowed}",
+    "{batch}: {used} unter T1, {name} erlaubt {allowed}"],
+  // why a lane of the plan stands, as deploy/start writes it
+  "state done": ["its scale ended", "ihre Waage hat geendet"],
+  "state cell": ["its scale failed", "ihre Waage versagt"],
+  "state gate": ["its gate failed", "ihr Tor versagt"],
+  "state bad": ["its scale sent no weight", "ihre Waage sandte kein Gewicht"],
+  "state refused": ["refused by the book", "vom Buch abgelehnt"],
+  "state disk": ["the book's disk failed", "die Platte des Buchs versagt"],
+  "state memory": ["no memory", "kein Speicher"],
+  "state turns": ["its scale reached its bound", "ihre Waage ist an ihrer Grenze"],
+});
+
+const SHOWN = 3;
+export const NEARLY_FULL = 9_500;
+
+export const share = (sheet, { allowed }) =>
+  (allowed ? sheet.nonstandard / allowed : sheet.nonstandard);
+
+export const isNear = (sheet, forecast) =>
+  share(sheet, forecast) * 100 >= settings.alarms.allowance;
+
+export function isSoonFull(sheet, minutes) {
+  return sheet.population > NEARLY_FULL || minutes < settings.alarms.full;
+}
+
+// Why a lane of the plan stands, in words; nothing where it runs.
+export function idleWords(state) {
+  const [first, ...rest] = state.split(" ");
+  if (!first || first === "weighing") return "";
+  const told = say(`state ${first}`);
+  const words = told.startsWith("state ") ? first : told;
+  return rest.length ? `${words} (${rest.join(" ")})` : words;
+}
+
+export const laneWords = (number) => {
+  const name = laneName(number);
+  return say("laneOf", { lane: number }) + (name ? ` ${name}` : "");
+};
+
+function batchAlarm({ sheet, forecast, minutes, pack }) {
+  const { batch } = sheet;
+  const { average } = forecast;
+  const [, , told, why] = forecastWords(forecast, sheet);
+  if (sheet.verdict) return [];
+  if (forecast.kind === "held") {
+    return [["alarm", "held", say(pack ? "heldBy" : "heldBySome", { batch, pack: count(pack ?? 0) })]];
+  }
+  if (forecast.kind === "fail" && forecast.fails[0] === "average" && average.each !== null) {
+    return [["alarm", "warn", say("failAverage", { batch, short: mass(average.short),
+      next: average.next, each: grams(average.each) })]];
+  }
+  if (forecast.kind === "fail") return [["alarm", "warn", say("failOther", { batch, told, why })]];
+  if (sheet.state === "running" && isSoonFull(sheet, minutes)) {
+    return [["warn", "clock", say("fullSoon", { batch,
+      time: Number.isFinite(minutes) ? duration(minutes) : "–" })]];
+  }
+  if (forecast.kind === "edge") return [["warn", "warn", say("failOther", { batch, told, why })]];
+  if (forecast.kind === "ok" && isNear(sheet, forecast)) {
+    return [["warn", "warn", say("allowanceNear", { batch, used: count(sheet.nonstandard),
+      allowed: count(forecast.allowed) })]];
+  }
+  return [];
+}
+
+function countryAlarm({ sheet, forecast }) {
+  if (!forecast.country?.isOver || forecast.kind === "early" || sheet.verdict) return [];
+  const { used, allowed } = forecast.country;
+  return [["warn", "warn", say("countryOver", { batch: sheet.batch, used: count(used),
+    allowed: count(allowed), name: settings.country.name })]];
+}
+
+function laneAlarm({ number, batch, silence, idle }) {
+  const lane = laneWords(number);
+  if (idle) return [["warn", "idle", say("idleSince", { lane, batch, why: idle })]];
+  if (batch && silence > settings.alarms.silence) {
+    return [["warn", "idle", say("silent", { lane, time: ago(silence) })]];
+  }
+  return [];
+}
+
+function bookAlarm({ left, isFull }) {
+  if (isFull || left === 0) return [["alarm", "reject", say("bookFull")]];
+  if (left < settings.alarms.rows) return [["warn", "clock", say("rowsLow", { left: count(left) })]];
+  return [];
+}
+
+// All alarms: [how loud, sign, text], those to act on first.
+export function alarmsOf({ book, batches, lanes }) {
+  const all = [...bookAlarm(book), ...batches.flatMap(batchAlarm), ...batches.flatMap(countryAlarm),
+    ...lanes.flatMap(laneAlarm)];
+  const isLoud = ([kind]) => kind === "alarm";
+  return [...all.filter(isLoud), ...all.filter((alarm) => !isLoud(alarm))];
+}
+
+// An alarm is the same as long as its sign and the words before its first figure are.
+const keyOf = ([kind, sign, text]) => `${kind} ${sign} ${text.split(/[:,]/)[0]}`;
+
+// Draws alarms into a list. What is new is spoken and, where it is to be acted on, sounded once.
+export class AlarmBar {
+  constructor(list, spoken) {
+    Object.assign(this, { list, spoken, known: new Set(), shown: "" });
+  }
+
+  draw(all, isSounding) {
+    const line = ([kind, sign, text]) =>
+      make("li", { className: kind }, icon(sign), make("span", {}, text));
+    const lines = all.slice(0, SHOWN).map(line);
+    if (all.length > SHOWN) {
+      lines.push(make("li", { className: "more none" },
+        make("span", {}, say("more", { count: all.length - SHOWN }))));
+    }
+    if (all.length === 0) lines.push(line(["none", "pass", say("noAlarm")]));
+    const shown = lines.map((one) => one.textContent).join();
+    if (shown !== this.shown) this.list.replaceChildren(...lines);
+    this.shown = shown;
+    const fresh = all.filter((alarm) => !this.known.has(keyOf(alarm)));
+    if (fresh.length) put(this.spoken, fresh.map(([, , text]) => text).join(". "));
+    if (isSounding && fresh.some(([kind]) => kind === "alarm")) sound();
+    this.known = new Set(all.map(keyOf));
+  }
+}
+

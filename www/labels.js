@@ -1,0 +1,89 @@
+// The pick list of a sample, to be printed, and its labels as ZPL for a label printer: which packs
+// were drawn, and where they lie.
+
+import * as office from "./office.js";
+import { addWords, say } from "./words.js";
+import { count, grams, quantity } from "./numbers.js";
+import { make, put, table } from "./page.js";
+import { packAt, packsOf } from "./follow.js";
+
+addWords({
+  pickList: ["Pick list", "Suchliste"],
+  pickTitle: ["Pick list of {batch}: {count} packs", "Suchliste {batch}: {count} Packungen"],
+  pickHint: ["By lane and place: so they are found in one walk.",
+    "Nach Linie und Platz: so sind sie in einem Gang gefunden."],
+  pickReads: ["Reading where they lie: {found} of {all} packs.",
+    "Liest, wo sie liegen: {found} von {all} Packungen."],
+  pickNo: ["Drawn as no.", "Gezogen als Nr."],
+  pickPlace: ["No. on its lane", "Nr. auf ihrer Linie"],
+  pickFound: ["Found", "Gefunden"],
+  labels: ["Labels (ZPL)", "Etiketten (ZPL)"],
+  back: ["Back", "Zurück"],
+});
+
+const plain = (text) => text.replace(/[^A-Za-z0-9 ./-]/g, (letter) =>
+  [...new TextEncoder().encode(letter)]
+    .map((byte) => `_${byte.toString(16).toUpperCase().padStart(2, "0")}`).join(""));
+
+// A label of 60 by 40 mm at 8 dots a mm for each pack: its number in large and as Code 128.
+export function zplOf(batch, packs) {
+  return packs.map(({ number, lane }, at) => [
+    "^XA", "^CI28", "^PW480", "^LL320",
+    `^FO24,24^A0N,64,64^FH^FD${number}^FS`,
+    `^FO24,100^A0N,32,32^FH^FD${plain(batch)}^FS`,
+    `^FO24,144^A0N,32,32^FH^FD${at + 1}/${packs.length}  L${lane}^FS`,
+    `^FO24,196^BY2^BCN,72,N,N,N^FD${number}^FS`,
+    "^XZ", ""].join("\n")).join("");
+}
+
+// The drawn packs with their place on their lane, in drawing order.
+async function drawnPacks(sheet, progress) {
+  const sample = await office.sample(sheet.batch);
+  const numbers = sample.second.length ? sample.second : sample.first;
+  const places = new Map();
+  const counts = new Map();
+  for (const { number, lane } of await packsOf(sheet, progress)) {
+    counts.set(lane, (counts.get(lane) ?? 0) + 1);
+    places.set(number, counts.get(lane));
+  }
+  const drawn = await Promise.all(numbers.map((number) => packAt(number)));
+  return drawn.map((pack, at) => ({ ...pack, at: at + 1, place: places.get(pack.number) }));
+}
+
+function download(name, text) {
+  const address = URL.createObjectURL(new Blob([text], { type: "text/plain" }));
+  const link = make("a", { href: address, download: name });
+  link.click();
+  URL.revokeObjectURL(address);
+}
+
+function listTable(sheet, packs) {
+  const byPlace = [...packs].sort((one, other) => one.lane - other.lane
+    || one.number - other.number);
+  const heads = ["pack", "lane", "pickPlace", "gross", "pickNo", "pickFound"].map((key) => say(key));
+  const rows = byPlace.map(({ number, lane, place, gross, at }) => [count(number), String(lane),
+    place ? count(place) : "–", grams(gross), String(at), "☐"]);
+  return table(say("pickTitle", { batch: sheet.batch, count: packs.length }), heads, rows,
+    ["right", "right", "right", "right", "right", ""]);
+}
+
+// Draws the pick list into a place, with buttons to print it and to save its labels.
+export async function openPickList(place, sheet, leave) {
+  const said = make("p", { role: "status", className: "quiet" });
+  place.replaceChildren(make("section", { className: "panel picklist" }, said));
+  const packs = await drawnPacks(sheet, (found, all) => {
+    put(said, say("pickReads", { found: count(found), all: count(all) }));
+    return place.contains(said);
+  });
+  if (!place.contains(said)) return;
+  put(said, `${sheet.product} · ${quantity(sheet.quantity)} ${sheet.unit}. ${say("pickHint")}`);
+  const button = (text, kind, act) => {
+    const made = make("button", { type: "button", className: kind }, text);
+    made.addEventListener("click", act);
+    return made;
+  };
+  said.after(make("div", { className: "scroll" }, listTable(sheet, packs)),
+    make("p", { className: "acts no-print" }, button(say("print"), "", () => print()),
+      button(say("labels"), "second", () => download(`${sheet.batch}.zpl`,
+        zplOf(sheet.batch, packs))), button(say("back"), "second", leave)));
+}

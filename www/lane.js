@@ -1,0 +1,284 @@
+// The station of a lane, on a tablet: what the gate was told of the last pack, why, and what to do;
+// the last ten packs; how the batch stands; and the void of a pack that has left the gate.
+
+import * as office from "./office.js";
+import { MOST_PACKS, limitsOf } from "./rules.js";
+import { addWords, say, time, word } from "./words.js";
+import { ago, count, grams, mass, quantity } from "./numbers.js";
+import { allLanes, atRows, packAt, packsFrom } from "./follow.js";
+import { icon, loadStyles, make, meter, put, shape, signalTag } from "./page.js";
+import { keepText, readText } from "./store.js";
+import { forecastOf } from "./forecast.js";
+import { forecastWords } from "./forecastwords.js";
+import { laneWords } from "./alarms.js";
+import { settings } from "./settings.js";
+import { voidDialog } from "./void.js";
+
+addWords({
+  PASS: ["PASS", "GUT"],
+  REJECT: ["REJECT", "RAUS"],
+  WAIT: ["Waiting for a pack", "Wartet auf Packung"],
+  IDLE: ["No batch", "Keine Charge"],
+  OFFLINE: ["No answer", "Keine Antwort"],
+  waits: ["Since {time} no pack came.", "Seit {time} kam keine Packung."],
+  idleText: ["This lane has no batch now. The plan of the hall gives it one.",
+    "Diese Linie hat jetzt keine Charge. Der Plan der Halle gibt ihr eine."],
+  offline: ["The book hasn't answered for {time}. What stands here is old.",
+    "Das Buch antwortet seit {time} nicht. Was hier steht, ist alt."],
+  open: ["The gate opens.", "Das Tor öffnet."],
+  shut: ["Take it off the belt. It doesn't count.", "Vom Band nehmen. Sie zählt nicht."],
+  "why allowance": ["Too light, and one in forty is used up.",
+    "Zu leicht, und 1 von 40 ist verbraucht."],
+  "why inadequate": ["Far too light.", "Viel zu leicht."],
+  "why held": ["The whole batch is held.", "Die ganze Charge ist gesperrt."],
+  "why full": ["The batch has 10 000 packs.", "Die Charge hat 10 000 Packungen."],
+  "more allowance": ["{net} g is below T1, {t1} g.", "{net} g liegt unter T1, {t1} g."],
+  "more inadequate": ["{net} g is below T2, {t2} g.", "{net} g liegt unter T2, {t2} g."],
+  "more held": ["A pack that counts is inadequate. Call the office.",
+    "Eine Packung, die zählt, ist unzulässig. Das Büro rufen."],
+  "more full": ["Call the office: the next batch is needed.",
+    "Das Büro rufen: die nächste Charge ist nötig."],
+  lastTen: ["Last ten packs", "Letzte zehn Packungen"],
+  packNo: ["pack {pack}", "Packung {pack}"],
+  packsThere: ["Packs of 10 000", "Packungen von 10 000"],
+  lightOf: ["Non-standard of allowed", "Untermaß von erlaubt"],
+  overNominal: ["Average over nominal", "Mehr als Nennmenge"],
+  noneYet: ["No pack yet", "Noch keine Packung"],
+  whichLane: ["Which lane is this?", "Welche Linie ist das?"],
+  whichHint: ["This browser keeps it. A lane that weighs has its batch beside it.",
+    "Dieser Browser behält es. Bei einer Linie, die wiegt, steht die Charge."],
+  otherLane: ["Another lane", "Andere Linie"],
+  spokenSignal: ["{word}. Pack {pack}, {net} g. {why}", "{word}. Packung {pack}, {net} g. {why}"],
+});
+
+const KEPT = "hall.lane";
+const SHOWN = 10;
+const MOST_ROWS = 96;
+const FIRST_ROWS = 400;
+const SHEET_EVERY = 1_500;
+const LATE = 8_000;
+
+// How often what is new is asked, in milliseconds: a packer waits for the signal.
+export const every = 400;
+
+const state = { lane: 0, batch: null, unsettled: null, packs: [], rows: 0, sheet: null, askedAt: 0,
+  since: 0 };
+let place;
+
+// ---- what is new
+
+async function takeRows(rows) {
+  const isFirst = state.rows === 0;
+  const first = Math.max(state.rows + 1, rows - (isFirst ? FIRST_ROWS : MOST_ROWS) + 1);
+  const found = (await packsFrom(first, rows)).filter((pack) => pack?.lane === state.lane);
+  if (found.length) state.since = Date.now();
+  state.packs = [...state.packs, ...found].slice(-SHOWN);
+  state.rows = rows;
+  // a void, a draw or a tare may have changed the packs that are shown
+  if (found.length === 0) {
+    state.packs = await Promise.all(state.packs.map(({ number }) => packAt(number, true)));
+  }
+  state.isNew = true;
+}
+
+async function askSheet() {
+  const batch = state.batch ?? state.packs.at(-1)?.batch;
+  if (!batch) return;
+  const isOther = state.sheet?.batch !== batch;
+  if (!isOther && (!state.isNew || Date.now() - state.askedAt < SHEET_EVERY)) return;
+  state.askedAt = Date.now();
+  state.isNew = false;
+  const sheet = await office.sheet(batch);
+  if (!sheet.refused) state.sheet = sheet;
+}
+
+async function ask() {
+  const { rows, batch, unsettled } = await office.lane(state.lane);
+  if (rows < state.rows) Object.assign(state, { rows: 0, packs: [], sheet: null });
+  atRows(rows);
+  Object.assign(state, { batch, unsettled });
+  if (rows > state.rows) await takeRows(rows);
+  await askSheet();
+}
+
+// ---- the signal
+
+// Where the pack lies between T2 and nominal, and the nine before it: a ruler that never moves.
+function gauge(pack, kind, { nominal, t1, t2, error }) {
+  const [low, high] = [t2 - error / 3, nominal + 1.4 * error];
+  const across = (net) =>
+    Math.round(8 + (Math.max(low, Math.min(high, net)) - low) / (high - low) * 584);
+  const name = (net, words) => [shape("path", { class: "g-line", d: `M${across(net)} 34v22` }),
+    shape("text", { x: across(net), y: 74, "text-anchor": "middle" }, words)];
+  const before = state.packs.slice(0, -1).map(({ net }) => `M${across(net)} 38v14`).join("");
+  return shape("svg", { class: `gauge ${kind}`, viewBox: "0 0 600 80", "aria-hidden": "true" },
+    shape("path", { class: "g-rule", d: "M8 45H592" }),
+    shape("path", { class: "g-low", d: `M8 45H${across(t1)}` }), name(t2, `T2 ${quantity(t2)}`),
+    name(t1, `T1 ${quantity(t1)}`), name(nominal, `Qn ${quantity(nominal)}`),
+    shape("path", { class: "g-before", d: before }),
+    shape("path", { class: "g-now", d: `M${across(pack.net)} 36l-13 -24h26z` }));
+}
+
+function draw(kind, sign, told, what, below = []) {
+  const key = JSON.stringify([kind, told, what, state.packs.at(-1)]);
+  if (place.signal.dataset.shown === key) return;
+  place.signal.dataset.shown = key;
+  place.signal.className = `st-signal ${kind}`;
+  place.signal.replaceChildren(icon(sign), make("p", { className: "st-word" }, told),
+    make("p", { className: "st-what" }, what[0] ? make("strong", {}, what[0]) : "", what[1]),
+    ...below);
+}
+
+function putSignal() {
+  const late = Date.now() - office.link.at;
+  const pack = state.packs.at(-1);
+  if (office.link.at && late > LATE) {
+    return draw("offline", "warn", say("OFFLINE"), ["", say("offline", { time: ago(late / 1000) })]);
+  }
+  if (!state.rows) return undefined;
+  if (!state.batch) {
+    return draw("wait", "idle", say("IDLE"), ["", say("idleText")]);
+  }
+  const silence = (Date.now() - state.since) / 1000;
+  if (!pack || pack.batch !== state.batch || silence > settings.alarms.silence) {
+    const since = pack ? say("waits", { time: time(state.since) }) : "";
+    return draw("wait", "idle", say("WAIT"), ["", since]);
+  }
+  return putPack(pack, limitsOf(state.sheet ?? { quantity: pack.net }));
+}
+
+function putPack(pack, limits) {
+  const [first, cause] = pack.signal.split(" ");
+  const figures = { net: grams(pack.net), t1: grams(limits.t1), t2: grams(limits.t2) };
+  const net = make("p", { className: "st-net" }, make("strong", {}, `${grams(pack.net, 1)} g`),
+    make("span", {}, say("packNo", { pack: count(pack.number) })));
+  const isPass = first === "pass";
+  const why = isPass ? say("open") : say(`why ${cause}`);
+  const more = isPass ? "" : `${say(`more ${cause}`, figures)} ${say("shut")}`;
+  const kind = isPass ? "pass" : "reject";
+  const told = say(isPass ? "PASS" : "REJECT");
+  draw(kind, kind, told, isPass ? ["", why] : [why, more],
+    state.sheet ? [gauge(pack, kind, limits), net] : [net]);
+  put(place.spoken, say("spokenSignal", { word: told, pack: pack.number, net: grams(pack.net, 1),
+    why: isPass ? "" : why }));
+}
+
+// ---- the last packs and the batch
+
+function putLast() {
+  const line = (pack) => make("tr", { className: pack.pile },
+    make("td", { className: "right" }, count(pack.number)),
+    make("td", { className: "right" }, grams(pack.net, 1)),
+    make("td", {}, pack.pile === "voided" ? word("voided") : signalTag(pack.signal)));
+  const empty = Array.from({ length: SHOWN - state.packs.length },
+    () => make("tr", {}, make("td", { colSpan: 3 }, "\u00a0")));
+  const heads = [["pack", "right"], ["net", "right"], ["signal", ""]]
+    .map(([key, side]) => make("th", { scope: "col", className: side }, say(key)));
+  place.last.replaceChildren(make("table", {},
+    make("caption", { className: "unseen" }, say("lastTen")),
+    make("thead", {}, make("tr", {}, heads)),
+    make("tbody", {}, [...state.packs].reverse().map(line), empty)));
+}
+
+function putProgress() {
+  const { sheet } = state;
+  if (!sheet) return;
+  const forecast = forecastOf(sheet, settings.country.share || null);
+  const [kind, sign, told, more] = forecastWords(forecast, sheet);
+  const part = (name, value, small, ...bar) => make("div", {}, make("dt", {}, say(name)),
+    make("dd", {}, value, make("small", {}, small)), ...bar);
+  const { above, aboveAll } = forecast.average;
+  place.says.className = `b-says ${kind}`;
+  place.says.replaceChildren(icon(sign), make("div", {}, make("strong", {}, told),
+    make("span", {}, more)));
+  place.progress.replaceChildren(
+    part("packsThere", count(sheet.population), "", meter(sheet.population, MOST_PACKS)),
+    part("lightOf", say("ofAllowed", { used: count(sheet.nonstandard),
+      allowed: count(forecast.allowed) }), "", meter(sheet.nonstandard, forecast.allowed,
+      forecast.over ? "warn" : "")),
+    part("overNominal", `${grams(above, 2, true)} g`, ` · ${mass(aboveAll, true)}`));
+}
+
+function putHead() {
+  const { sheet } = state;
+  put(place.number, laneWords(state.lane));
+  put(place.batch, state.batch ?? "–");
+  const goods = sheet?.batch === state.batch && sheet;
+  put(place.goods, goods ? `${goods.product} · ${quantity(goods.quantity)} ${goods.unit}` : "");
+}
+
+// ---- the page
+
+// The last pack that passed and has left the gate: the one at the gate can't be voided yet.
+function voidable() {
+  return [...state.packs].reverse()
+    .find(({ number, pile }) => pile === "passed" && number !== state.unsettled);
+}
+
+async function chooser() {
+  const lanes = await allLanes();
+  const shown = lanes.filter(({ number, batch }) =>
+    batch || Object.hasOwn(settings.lanes, number) || number <= 4);
+  place.section.replaceChildren(make("div", { className: "which" },
+    make("h1", {}, say("whichLane")), make("p", { className: "quiet" }, say("whichHint")),
+    make("ul", { className: "lanes" }, shown.map(({ number, batch }) => make("li", {},
+      make("a", { className: "button second", href: `#lane/${number}` },
+        make("strong", {}, laneWords(number)), make("span", {}, batch ?? "")))))));
+}
+
+function buildStation() {
+  const part = (name, className, ...more) => make(name, { className }, ...more);
+  Object.assign(place, { signal: part("section", "st-signal wait"), last: make("div"),
+    progress: part("dl", "facts3"), says: part("div", "b-says early"),
+    spoken: make("p", { className: "unseen", role: "status" }), number: part("h1", "st-no"),
+    batch: make("strong"), goods: make("span") });
+  place.signal.setAttribute("aria-label", say("signal"));
+  place.void = voidDialog(voidable);
+  place.section.replaceChildren(part("div", "st-head", place.number,
+    part("p", "st-batch", place.batch, place.goods),
+    make("a", { href: "#lane" }, say("otherLane")), make("a", { href: "#board" }, say("board"))),
+  part("div", "station", place.signal,
+    part("section", "panel st-last", make("h2", {}, say("lastTen")), place.last, place.void.button),
+    part("div", "panel st-progress", place.says, place.progress)),
+  place.spoken, place.void.dialog);
+  putHead();
+  draw("wait", "idle", say("WAIT"), ["", say("loading")]);
+  putLast();
+}
+
+export async function build(section) {
+  await loadStyles("forecast.css", "forms.css", "lane.css");
+  place = { section };
+}
+
+export async function show(about) {
+  const wanted = Number(about);
+  if (!(wanted >= 1 && wanted <= 16)) {
+    state.lane = 0;
+    const kept = Number(readText(KEPT));
+    if (about === "" && kept >= 1 && kept <= 16 && !place.asked) location.hash = `#lane/${kept}`;
+    else await chooser();
+    place.asked = true;
+    return;
+  }
+  place.asked = true;
+  keepText(KEPT, String(wanted));
+  if (wanted !== state.lane) {
+    Object.assign(state, { lane: wanted, packs: [], rows: 0, sheet: null, since: Date.now() });
+    buildStation();
+  }
+  await refresh();
+}
+
+export async function refresh() {
+  if (!state.lane) return void await office.summary();
+  try {
+    await ask();
+  } finally {
+    putHead();
+    putSignal();
+    putLast();
+    putProgress();
+    place.void.show();
+  }
+}

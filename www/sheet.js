@@ -1,0 +1,329 @@
+// The sheet of a batch, to be printed on A4: the reference test whole, limits, tares, the five checks,
+// every pack that doesn't count. The weights of the samples stand in the batch's paper, which the
+// front may serve or a person chooses. The verdict is the book's; what is rounded has a sign.
+
+import * as office from "./office.js";
+import { addWords, say, time, word } from "./words.js";
+import { allowedOf, limitsOf } from "./rules.js";
+import { contentsCheck } from "./sample.js";
+import { count, day, fixed, grams, percent, quantity } from "./numbers.js";
+import { icon, loadStyles, make, notice, shape } from "./page.js";
+import { BatchPage } from "./loader.js";
+import { drawChart } from "./chart.js";
+import { failsOf } from "./forecast.js";
+import { measuredOf } from "./measured.js";
+import { readPaper } from "./answers.js";
+import { samplesMeasured, samplesOfPaper, tareOf, testOf } from "./reference.js";
+import { tareChanges } from "./control.js";
+
+addWords({
+  sheetTitle: ["Batch sheet", "Chargenblatt"],
+  system: ["average quantity system, Directive 76/211/EEC",
+    "Füllmengen nach Durchschnitt, Richtlinie 76/211/EWG"],
+  five: ["The five checks", "Die fünf Prüfungen"],
+  check: ["Check", "Prüfung"],
+  found: ["Found", "Gefunden"],
+  needed: ["Needed", "Nötig"],
+  result: ["Result", "Ergebnis"],
+  onSample: ["reference test, on the sample", "Referenzprüfung, an der Probe"],
+  onAll: ["all packs that count", "alle Packungen, die zählen"],
+  cContents: ["Contents", "Einzelinhalt"],
+  cMean: ["Mean", "Mittelwert"],
+  cAverage: ["Average", "Durchschnitt"],
+  cAllowance: ["Allowance", "1 von 40"],
+  cInadequate: ["Inadequate", "Unzulässig"],
+  fContents: ["d1 = {d1} of {first}", "d1 = {d1} von {first}"],
+  fContents2: ["d1 = {d1} of {first}; d2 = {d2}, d1 + d2 = {both}",
+    "d1 = {d1} von {first}; d2 = {d2}, d1 + d2 = {both}"],
+  nContents: ["d1 ≤ c1 = {c1} accepts, ≥ r1 = {r1} rejects", "d1 ≤ c1 = {c1} nimmt an, ≥ r1 = {r1} "
+    + "weist zurück"],
+  nContents2: ["; then d1 + d2 ≤ c2 = {c2}", "; dann d1 + d2 ≤ c2 = {c2}"],
+  fMean: ["x̄ ≈ {mean} g of the first {means}, s ≈ {s} g", "x̄ ≈ {mean} g der ersten {means}, s ≈ {s} g"],
+  nMean: ["x̄ ≥ Qn − {k}·s ≈ {limit} g", "x̄ ≥ Qn − {k}·s ≈ {limit} g"],
+  noWeights: ["the weights stand in the paper", "die Gewichte stehen im Papier"],
+  notMeasured: ["not measured yet", "noch nicht nachgewogen"],
+  fAverage: ["≈ {average} g of {count} packs", "≈ {average} g von {count} Packungen"],
+  nAverage: ["≥ Qn = {nominal} g", "≥ Qn = {nominal} g"],
+  fAllowance: ["{nonstandard} below T1 (≈ {share})", "{nonstandard} unter T1 (≈ {share})"],
+  nAllowance: ["at most {allowed}, one in forty", "höchstens {allowed}, 1 von 40"],
+  fInadequate: ["{inadequate} below T2", "{inadequate} unter T2"],
+  nInadequate: ["none", "keine"],
+  holds: ["holds", "erfüllt"],
+  fails: ["fails", "verfehlt"],
+  open: ["open", "offen"],
+  nominalLong: ["Nominal quantity Qn", "Nennmenge Qn"],
+  error: ["Tolerable error TNE", "Zulässiger Fehler TNE"],
+  densityOf: ["Density, g a litre", "Dichte, g je Liter"],
+  planRow: ["Plan for {count} packs, {mode}: first {first} (c1 {c1}, r1 {r1}), second {second} "
+    + "(c2 {c2}, r2 {r2}), mean of {means}, k {k}", "Plan für {count} Packungen, {mode}: erste {first} "
+    + "(c1 {c1}, r1 {r1}), zweite {second} (c2 {c2}, r2 {r2}), Mittel von {means}, k {k}"],
+  "mode keep": ["kept", "heil"],
+  "mode destroy": ["opened", "geöffnet"],
+  chartHead: ["All packs in order of weighing", "Alle Packungen, wie gewogen"],
+  weights: ["{which}, in drawing order, g", "{which}, wie gezogen, g"],
+  "which first": ["First sample", "Erste Probe"],
+  "which second": ["Second sample", "Zweite Probe"],
+  drawWord: ["word {word}", "Wort {word}"],
+  contentsG: ["contents", "Inhalt"],
+  grossG: ["gross", "brutto"],
+  emptyG: ["empty", "leer"],
+  packNo: ["pack", "Nr."],
+  lightMark: ["▼ below T1 ({t1} g): defective. Shaded: counts for the mean.",
+    "▼ unter T1 ({t1} g): fehlerhaft. Getönt: zählt für den Mittelwert."],
+  tares: ["Tares in force for its packs", "Taren, die für ihre Packungen gelten"],
+  tareDay: ["{day}: {tare} g", "{day}: {tare} g"],
+  tareFrom: ["{tare} g from pack {pack} on", "{tare} g ab Packung {pack}"],
+  tareNote: ["As they now are; a corrected one judged its packs anew.",
+    "Wie sie jetzt sind; eine berichtigte hat ihre Packungen neu beurteilt."],
+  outs: ["Rejected and voided packs: {count}", "Ausgeschleuste und gestrichene Packungen: {count}"],
+  noOuts: ["No pack was rejected or voided.", "Keine Packung wurde ausgeschleust oder gestrichen."],
+  rounded: ["≈ is rounded. The verdict and each result of a closed batch are the book's, decided in "
+    + "whole milligrams.", "≈ ist gerundet. Das Urteil und jedes Ergebnis einer abgeschlossenen Charge "
+    + "sind die des Buchs, in ganzen Milligramm entschieden."],
+  notClosed: ["Not closed: results of all packs are those of now.",
+    "Nicht abgeschlossen: die Ergebnisse aller Packungen sind die von jetzt."],
+  closedAt: ["Closed by row {row}. Fingerprint at the closing: hall audit --book BOOK --rows {row}",
+    "Abgeschlossen mit Zeile {row}. Fingerabdruck beim Abschluss: hall audit --book BUCH --rows {row}"],
+  proveIt: ["To check it: hall paper --batch {batch}, then prove.",
+    "Zum Prüfen: hall paper --batch {batch}, dann prove."],
+  noArchive: ["Who and when, and the evidence on tares and scales, need the archive of the hall.",
+    "Wer und wann, und die Nachweise zu Taren und Waagen, brauchen das Archiv der Halle."],
+  signed: ["Checked by, date", "Geprüft von, am"],
+  printed: ["Printed {day} {time} from row {row} of the book.",
+    "Gedruckt {day} {time} aus Zeile {row} des Buchs."],
+  choosePaper: ["Paper of the batch (hall paper --batch {batch})",
+    "Papier der Charge (hall paper --batch {batch})"],
+  notItsPaper: ["This file isn't the paper of {batch}.", "Diese Datei ist nicht das Papier von {batch}."],
+  differs: ["The paper's figures and the verdict of the book differ: have both checked.",
+    "Die Zahlen des Papiers und das Urteil des Buchs widersprechen sich: beides prüfen lassen."],
+});
+
+const CHART_WIDE = 694;
+const COLUMNS = 4;
+
+async function fromHere(sheet, packs) {
+  const sample = await office.sample(sheet.batch);
+  return samplesMeasured(sample, measuredOf(sheet.batch), tareOf(packs), sheet.mode);
+}
+
+const fromPaper = (paper, packs) => samplesOfPaper(paper, tareOf(packs));
+
+// ---- the five checks
+
+// What the book says of a check: of a closed batch by its verdict, before that of all packs alone.
+function resultOf(sheet, name, found) {
+  if (sheet.verdict) return sheet.verdict.includes(name) ? "fails" : "holds";
+  return found === null ? "open" : found ? "holds" : "fails";
+}
+
+function contentsRow(sheet, plan) {
+  const { first, second } = sheet;
+  if (!first) return [say("notMeasured"), null];
+  const isDone = first.measured === first.count && (!second || second.measured === second.count);
+  const figures = { d1: first.defective, first: first.count, d2: second?.defective,
+    both: first.defective + (second?.defective ?? 0) };
+  const told = contentsCheck(plan, first.defective, second ? second.defective : null);
+  const isOpen = !isDone || told === "open";
+  return [say(second ? "fContents2" : "fContents", figures), isOpen ? null : told === "accepts"];
+}
+
+function checkRows(sheet, { plan, mean }) {
+  const limits = limitsOf(sheet);
+  const figures = { ...plan, ...sheet, k: fixed(plan.k / 1000, 3), nominal: grams(limits.nominal),
+    mean: mean && grams(mean.mean), s: mean && grams(mean.s), limit: mean && grams(mean.limit),
+    count: count(sheet.population), allowed: count(allowedOf(sheet.population)),
+    average: grams(sheet.net / Math.max(1, sheet.population)),
+    nonstandard: count(sheet.nonstandard), inadequate: count(sheet.inadequate),
+    share: percent(sheet.nonstandard / Math.max(1, sheet.population)) };
+  const fails = failsOf(sheet);
+  const [contents, accepted] = contentsRow(sheet, plan);
+  const needs = say("nContents", figures) + (plan.second ? say("nContents2", figures) : "");
+  const row = (name, on, found, needed, result) =>
+    [say(`c${name}`), say(on), found, needed, resultOf(sheet, name.toLowerCase(), result)];
+  const all = (name) => row(name, "onAll", say(`f${name}`, figures), say(`n${name}`, figures),
+    !fails.includes(name.toLowerCase()));
+  return [row("Contents", "onSample", contents, needs, accepted),
+    row("Mean", "onSample", mean ? say("fMean", figures) : say(sheet.first ? "noWeights"
+      : "notMeasured"), mean ? say("nMean", figures) : "", mean ? mean.accepts : null),
+    all("Average"), all("Allowance"), all("Inadequate")];
+}
+
+function checkTable(sheet, test) {
+  const sign = { holds: "pass", fails: "reject", open: "dot" };
+  const rows = checkRows(sheet, test).map(([name, on, found, needed, result]) => make("tr", {},
+    make("th", { scope: "row" }, name, make("small", {}, on)), make("td", {}, found),
+    make("td", {}, needed), make("td", { className: "sh-result" }, icon(sign[result]),
+      say(result))));
+  const heads = ["check", "found", "needed", "result"]
+    .map((key) => make("th", { scope: "col" }, say(key)));
+  return make("table", { className: "sh-checks" }, make("caption", {}, say("five")),
+    make("thead", {}, make("tr", {}, heads)), make("tbody", {}, rows));
+}
+
+// Whether a paper's figures say otherwise than the verdict; that would be a fault.
+function isOtherwise(sheet, { mean }) {
+  const first = sheet.verdict?.split(" ")[0];
+  if (!mean || (first !== "released" && first !== "withheld")) return false;
+  return mean.accepts === sheet.verdict.split(" ").includes("mean");
+}
+
+// ---- facts
+
+function lines(pairs) {
+  return make("dl", { className: "lines" }, pairs.map(([name, value]) => make("div", {},
+    make("dt", {}, name), make("dd", {}, value))));
+}
+
+function tareLines({ paper }, packs) {
+  if (paper) return paper.tares.map(([date, tare]) => [day(date), `${grams(tare)} g`]);
+  if (packs.length === 0) return [];
+  const first = packs[0];
+  const changes = [{ place: 0, tare: first.gross - first.net }, ...tareChanges(packs)];
+  return changes.map(({ place, tare }) => [say("tareFrom",
+    { tare: grams(tare), pack: count(packs[place].number) }), ""]);
+}
+
+function goodsLines(sheet) {
+  const { nominal, error, t1, t2 } = limitsOf(sheet);
+  const amount = `${quantity(sheet.quantity)} ${sheet.unit}`;
+  const volume = sheet.unit === "ml" ? [[say("densityOf"), grams(sheet.density)]] : [];
+  return [[say("nominalLong"), sheet.unit === "ml" ? `${amount} = ${grams(nominal)} g`
+    : `${grams(nominal)} g`], ...volume, [say("error"), `${grams(error)} g`],
+  ["T1 = Qn − TNE", `${grams(t1)} g`], ["T2 = Qn − 2·TNE", `${grams(t2)} g`]];
+}
+
+function factBlocks(sheet, samples, packs) {
+  const piles = ["readings", "passed", "sampled", "rejected", "voided"]
+    .map((pile) => [word(pile), count(sheet.piles[pile])]);
+  return make("div", { className: "sh-facts" }, lines(goodsLines(sheet)),
+    make("div", {}, make("h3", {}, say("tares")), lines(tareLines(samples, packs)),
+      make("p", { className: "sh-note" }, say("tareNote"))),
+    lines([...piles, [say("onAll"), count(sheet.population)]]));
+}
+
+// ---- weights
+
+function weightCells(one, at, which, { plan, t1, isDestroy }) {
+  if (!one) return [];
+  const kind = `right${which === "first" && at < plan.means ? " mean" : ""}`;
+  const isLight = one.contents !== null && one.contents < t1;
+  const spell = (mass) => (mass === null ? "–" : grams(mass));
+  const cell = (text, more = "") => make("td", { className: `${kind}${more}` }, text);
+  return [cell(String(one.pack)), cell(spell(one.gross)), isDestroy ? cell(spell(one.empty)) : [],
+    cell((isLight ? "▼ " : "") + spell(one.contents), isLight ? " light" : "")].flat();
+}
+
+function weightTable(which, samples, about) {
+  const list = samples[which];
+  if (list.length === 0) return [];
+  const high = Math.ceil(list.length / COLUMNS);
+  const columns = Array.from({ length: Math.min(COLUMNS, list.length) }, (_, x) => x);
+  const rows = Array.from({ length: high }, (_, y) => make("tr", {}, columns.flatMap((x) =>
+    weightCells(list[x * high + y], x * high + y, which, about))));
+  const names = ["packNo", "grossG", ...(about.isDestroy ? ["emptyG"] : []), "contentsG"];
+  const heads = columns.flatMap(() => names.map((key) =>
+    make("th", { scope: "col", className: "right" }, say(key))));
+  const drawnBy = samples.words[which === "first" ? 0 : 1];
+  return [make("table", { className: `sh-weights ${about.isDestroy ? "by4" : "by3"}` },
+    make("caption", {}, say("weights", { which: say(`which ${which}`) }),
+      drawnBy ? make("small", {}, say("drawWord", { word: drawnBy })) : null),
+    make("thead", {}, make("tr", {}, heads)), make("tbody", {}, rows))];
+}
+
+function outList(packs) {
+  const outs = packs.filter(({ pile }) => pile === "rejected" || pile === "voided");
+  if (outs.length === 0) return make("p", { className: "sh-note" }, say("noOuts"));
+  const cause = ({ pile, signal }) => (pile === "voided" ? word("voided")
+    : signal === "pass" ? word("rejected") : word(signal));
+  return make("section", { className: "sh-outs" }, make("h3", {}, say("outs",
+    { count: count(outs.length) })), make("ol", {}, outs.map((pack) => make("li", {},
+    make("span", {}, String(pack.number)), make("span", {}, `${grams(pack.net)} g`),
+    make("span", {}, cause(pack))))));
+}
+
+// ---- the pages
+
+function verdictBox(sheet) {
+  const [first, ...reasons] = (sheet.verdict ?? "none").split(" ");
+  const sign = { released: "pass", withheld: "reject" }[first] ?? "dot";
+  const why = reasons.length ? `: ${reasons.map(word).join(", ")}` : "";
+  const text = sheet.verdict ? word(first) + why : say("noVerdict");
+  const kind = { released: "ok", withheld: "alarm" }[first] ?? "";
+  return make("p", { className: `big-verdict ${kind}` }, icon(sign), text);
+}
+
+function headOf(sheet) {
+  return make("header", { className: "sh-head" }, make("div", {},
+    make("p", { className: "quiet" }, `${say("sheetTitle")} · ${say("system")}`),
+    make("h2", {}, sheet.batch),
+    make("p", {}, `${sheet.product} · ${quantity(sheet.quantity)} ${sheet.unit} ℮ · `
+      + word(sheet.state))), verdictBox(sheet));
+}
+
+function footOf(sheet, { paper }) {
+  const now = Date.now();
+  const date = new Date(now).toLocaleDateString("sv");
+  const closing = paper ? `${say("closedAt", { row: paper.row })}. ` : "";
+  return make("footer", { className: "sh-foot" },
+    make("p", {}, `${say("rounded")} ${sheet.verdict ? "" : say("notClosed")}`),
+    make("p", {}, `${closing}${sheet.verdict ? say("proveIt", sheet) : ""} ${say("noArchive")}`),
+    make("div", { className: "sh-sign" }, make("p", {}, say("printed", { day: day(date),
+      time: time(now), row: count(sheet.rows) })), make("p", { className: "sign" }, say("signed"))));
+}
+
+function sheetOf(sheet, packs, samples) {
+  const test = testOf(sheet, samples);
+  const { plan } = test;
+  const { t1 } = limitsOf(sheet);
+  const about = { plan, t1, isDestroy: sheet.mode === "destroy" };
+  const planWords = say("planRow", { ...plan, count: count(sheet.population),
+    mode: say(`mode ${sheet.mode ?? "keep"}`), k: fixed(plan.k / 1000, 3) });
+  const chart = packs.length ? drawChart({ sheet, packs, view: [0, packs.length],
+    wide: CHART_WIDE }).picture : shape("svg", { viewBox: "0 0 1 1", "aria-hidden": "true" });
+  const hasWeights = samples.first.some(({ gross }) => gross !== null);
+  return [isOtherwise(sheet, test) ? notice("alarm", "reject", say("differs")) : "",
+    make("article", { className: "paper" }, headOf(sheet),
+      make("p", { className: "sh-plan" }, planWords), factBlocks(sheet, samples, packs),
+      checkTable(sheet, test), make("h3", {}, say("chartHead")),
+      make("div", { className: "sh-chart" }, chart), hasWeights ? [
+        weightTable("first", samples, about), weightTable("second", samples, about),
+        make("p", { className: "sh-note" }, say("lightMark", { t1: grams(t1) }))] : [],
+      outList(packs), footOf(sheet, samples))];
+}
+
+// A field for the paper of a batch, where the front serves none.
+function paperField(sheet, take) {
+  const bad = make("span", { className: "bad-word", role: "status" });
+  const input = make("input", { type: "file", id: "sheet-paper", accept: ".txt,text/plain" });
+  input.addEventListener("change", async () => {
+    const paper = readPaper(await input.files[0].text());
+    if (paper?.batch === sheet.batch) take(paper);
+    else bad.textContent = say("notItsPaper", sheet);
+  });
+  return make("p", { className: "no-print chooser" },
+    make("label", { for: "sheet-paper" }, say("choosePaper", sheet)), input, bad);
+}
+
+async function draw(place, sheet, packs) {
+  const text = sheet.verdict ? await office.paper(sheet.batch) : "";
+  const served = readPaper(text);
+  const paper = served?.batch === sheet.batch ? served : null;
+  const printer = make("button", { type: "button" }, icon("print"), say("print"));
+  printer.addEventListener("click", () => print());
+  const put = (samples) => place.replaceChildren(
+    make("p", { className: "no-print sheet-bar" }, printer),
+    sheet.verdict && sheet.first && !samples.paper
+      ? paperField(sheet, (chosen) => put(fromPaper(chosen, packs))) : "",
+    ...sheetOf(sheet, packs, samples));
+  put(paper ? fromPaper(paper, packs) : await fromHere(sheet, packs));
+}
+
+const page = new BatchPage("sheet", draw);
+
+export async function build(section) {
+  await loadStyles("figures.css", "sheet.css");
+  page.build(section);
+}
+
+export const show = (batch) => page.show(batch);
+export const refresh = () => page.refresh();

@@ -1,0 +1,60 @@
+// The last nets of a lane against the nominal quantity, T1 and T2: small, for a glance.
+
+import { shape } from "./page.js";
+
+const MOST = 60;
+const round = (number) => Math.round(number * 10) / 10;
+
+// From which size on the lines have their names.
+const NAMED = { wide: 420, high: 90 };
+
+function scales(limits, wide, high) {
+  const { nominal, t2, error } = limits;
+  // fixed for the product, so that nothing moves as packs come
+  const [low, top] = [t2 - .45 * error, nominal + 1.3 * error];
+  const edge = Math.max(4, high * .04);
+  const isNamed = high > NAMED.high && wide > NAMED.wide;
+  const right = wide - (isNamed ? Math.max(38, high * .2) : edge);
+  const held = (net) => Math.min(top, Math.max(low, net));
+  return {
+    isNamed, right,
+    up: (net) => round(edge + (top - held(net)) / (top - low) * (high - 2 * edge)),
+    across: (at) => round(edge + (at + .5) * (right - edge * 2) / MOST),
+    size: Math.max(2.5, Math.min(9, high / 26)),
+    letters: Math.round(Math.max(15, Math.min(28, high / 8))),
+  };
+}
+
+function lines({ nominal, t1, t2 }, { up, right, isNamed, letters }, high) {
+  const line = (kind, net) => shape("path", { class: kind, d: `M0 ${up(net)}H${right}` });
+  const name = ([words, net]) => shape("text", { class: "strong", x: right + 6,
+    y: up(net) + letters * .36, "font-size": letters }, words);
+  return [
+    shape("rect", { class: "below", x: 0, y: up(t1), width: right,
+      height: Math.max(0, high - up(t1)) }),
+    line("l-nominal", nominal), line("l-t1", t1), line("l-t2", t2),
+    isNamed ? [["Qn", nominal], ["T1", t1], ["T2", t2]].map(name) : [],
+  ];
+}
+
+const cross = ({ x, y }, size) => `M${x - size} ${y - size}l${2 * size} ${2 * size}`
+  + `m0 ${-2 * size}l${-2 * size} ${2 * size}`;
+
+// Draws packs into a place of this size, between the limits of their batch.
+export function spark(place, packs, limits, wide, high) {
+  const scale = scales(limits, wide, high);
+  const { size } = scale;
+  const points = packs.slice(-MOST).map(({ net, signal }, at, shown) => ({
+    x: scale.across(at + MOST - shown.length), y: scale.up(net), isPass: signal === "pass" }));
+  const path = (kind, d, width) => shape("path", { class: kind, d, "stroke-width": width });
+  const dots = points.filter(({ isPass }) => isPass).map(({ x, y }) => `M${x} ${y}h0`);
+  const crosses = points.filter(({ isPass }) => !isPass).map((point) => cross(point, size));
+  const last = points.at(-1);
+  place.replaceChildren(shape("svg",
+    { viewBox: `0 0 ${wide} ${high}`, width: wide, height: high, "aria-hidden": "true" },
+    lines(limits, scale, high),
+    points.length > 1
+      ? path("l-net", `M${points.map(({ x, y }) => `${x} ${y}`).join("L")}`, size / 3) : [],
+    path("m-pass", dots.join(""), size * 1.1), path("m-reject", crosses.join(""), size / 2.2),
+    last ? shape("circle", { class: "m-cursor", cx: last.x, cy: last.y, r: size * 1.5 }) : []));
+}

@@ -1,0 +1,190 @@
+// The next step of a batch: a title, why, what is good to know, and one button that does it.
+
+import { addWords, say } from "./words.js";
+import { count, grams as spell, mass } from "./numbers.js";
+import { STEPS, nextOf, stepOf } from "./tasks.js";
+import { drawn, isReady, makeField, makeSaid, readAll, sendAct } from "./acts.js";
+import { icon, make, meter, tag, verdictTag } from "./page.js";
+import { forecastOf } from "./forecast.js";
+import { forecastWords } from "./forecastwords.js";
+import { planOf } from "./rules.js";
+
+addWords({
+  "step weigh": ["Weigh", "Wiegen"],
+  "step end": ["End", "Beenden"],
+  "step draw": ["Draw", "Ziehen"],
+  "step measure": ["Measure", "Nachwiegen"],
+  "step close": ["Close", "Abschließen"],
+  stepDone: ["done", "getan"],
+  weighTitle: ["{batch} runs", "{batch} läuft"],
+  weighText: ["Nothing to do: it can be ended when its lanes have stopped.",
+    "Nichts zu tun: beenden geht, wenn ihre Linien stehen."],
+  endTitle: ["End {batch}?", "{batch} beenden?"],
+  endText: ["All its lanes have stopped. After this no pack can be added to it.",
+    "Alle ihre Linien stehen. Danach kommt keine Packung mehr dazu."],
+  endDo: ["End the batch", "Charge beenden"],
+  drawTitle: ["Draw {first} of {count} packs", "{first} von {count} Packungen ziehen"],
+  drawText: ["The plan for {count} packs: at most {c1} of {first} below T1 accepts, {r1} rejects; "
+    + "between them {second} more are drawn.",
+  "Der Plan für {count} Packungen: höchstens {c1} von {first} unter T1 nimmt an, {r1} weist zurück; "
+    + "dazwischen werden {second} weitere gezogen."],
+  drawAll: ["Under 100 packs all are measured: at most {c1} of them below T1 accepts.",
+    "Unter 100 Packungen werden alle nachgewogen: höchstens {c1} davon unter T1 nimmt an."],
+  keepWhole: ["The packs are kept", "Die Packungen bleiben heil"],
+  keepHint: ["weighed whole, less the tare", "ganz gewogen, abzüglich Tara"],
+  destroyWhole: ["The packs are opened", "Die Packungen werden geöffnet"],
+  destroyHint: ["20 packs, each with its own empty weight",
+    "20 Packungen, jede mit eigenem Leergewicht"],
+  wordHint: ["Made up by this machine; who knows it can draw the sample again. An inspector may "
+    + "give one.", "Von dieser Maschine erdacht; wer es kennt, kann die Probe noch einmal ziehen. "
+    + "Der Prüfer darf eines geben."],
+  drawDo: ["Draw the sample", "Probe ziehen"],
+  measureTitle: ["Measure the sample: {done} of {all} done",
+    "Probe nachwiegen: {done} von {all} getan"],
+  measureText: ["You can stop at any time; what is recorded stays.",
+    "Sie können jederzeit aufhören; was erfasst ist, bleibt."],
+  measureDo: ["Measure", "Nachwiegen"],
+  secondTitle: ["{d1} below T1 leave it open", "{d1} unter T1 lassen es offen"],
+  secondText: ["With at most {c1} it would be accepted now, with {r1} rejected. {second} more packs "
+    + "decide: at most {c2} of both together.",
+  "Mit höchstens {c1} wäre sie jetzt angenommen, mit {r1} zurückgewiesen. {second} weitere "
+    + "entscheiden: höchstens {c2} von beiden zusammen."],
+  secondDo: ["Draw the second sample", "Zweite Probe ziehen"],
+  heldTitle: ["{batch} is held", "{batch} ist gesperrt"],
+  heldText: ["A pack that counts lacks more than twice the tolerable error, so every pack is "
+    + "rejected. Was it found and taken out? Then void it. Was the tare wrong? Then correct it.",
+  "Einer Packung, die zählt, fehlt mehr als das Doppelte des Fehlers; darum wird jede Packung "
+    + "ausgeschleust. Ist sie gefunden und heraus? Dann streichen. War die Tara falsch? Dann "
+    + "berichtigen."],
+  closeTitle: ["Close {batch}", "{batch} abschließen"],
+  closeText: ["The sample is measured and decides. The verdict can't be changed afterwards.",
+    "Die Probe ist nachgewogen und entscheidet. Das Urteil kann danach nicht geändert werden."],
+  closeEmpty: ["No pack counts: it is closed as empty.",
+    "Keine Packung zählt: sie wird als leer abgeschlossen."],
+  closeDo: ["Close the batch", "Charge abschließen"],
+  closedTitle: ["{batch} is closed", "{batch} ist abgeschlossen"],
+  closedText: ["Its sheet can be printed.", "Ihr Blatt kann gedruckt werden."],
+  wouldNow: ["All packs now", "Alle Packungen jetzt"],
+  countsNow: ["Packs that count", "Packungen, die zählen"],
+  overNow: ["Average over nominal", "Durchschnitt über Nennmenge"],
+  lightNow: ["Non-standard of allowed", "Untermaß von erlaubt"],
+  defectsNow: ["Defective in the sample", "Fehlerhaft in der Probe"],
+  c1r1: ["{d1}, c1 = {c1}, r1 = {r1}", "{d1}, c1 = {c1}, r1 = {r1}"],
+  c2r2: ["{both}, c2 = {c2}, r2 = {r2}", "{both}, c2 = {c2}, r2 = {r2}"],
+  toSheet: ["Sheet", "Blatt"],
+  toChart: ["Chart", "Karte"],
+});
+
+export function stepList(next) {
+  const now = stepOf(next);
+  return make("ol", { className: "steps" }, STEPS.map((name, at) => {
+    const kind = at < now ? "done" : at === now ? "now" : "later";
+    return make("li", { className: kind, "aria-current": kind === "now" ? "step" : null },
+      make("span", { className: "dot" }, kind === "done" ? icon("pass") : String(at + 1)),
+      make("span", {}, say(`step ${name}`),
+        kind === "done" ? make("span", { className: "unseen" }, ` ${say("stepDone")}`) : null));
+  }));
+}
+
+// How the batch stands: what an act that can't be taken back is judged by.
+function standing(sheet) {
+  const forecast = forecastOf(sheet);
+  const [kind, sign, told] = forecastWords(forecast, sheet);
+  const loud = { ok: "ok", early: "calm", edge: "warn" }[kind] ?? "alarm";
+  const { above, aboveAll } = forecast.average;
+  const plan = planOf(sheet.population, sheet.mode);
+  const facts = [[say("wouldNow"), tag(loud, sign, told)],
+    [say("countsNow"), count(sheet.population)],
+    [say("overNow"), `${spell(above, 2, true)} g · ${mass(aboveAll, true)}`],
+    [say("lightNow"), say("ofAllowed", { used: count(sheet.nonstandard),
+      allowed: count(forecast.allowed) })]];
+  if (sheet.first) {
+    const d1 = sheet.first.defective;
+    facts.push([say("defectsNow"), sheet.second
+      ? say("c2r2", { ...plan, both: d1 + sheet.second.defective }) : say("c1r1", { ...plan, d1 })]);
+  }
+  return make("dl", { className: "lines before" }, facts.map(([name, value]) =>
+    make("div", {}, make("dt", {}, name), make("dd", {}, value))));
+}
+
+function modes(sheet) {
+  const isSmall = sheet.population < 100;
+  return make("div", { className: "picks", role: "radiogroup", "aria-label": say("field.mode") },
+    ["keep", "destroy"].filter((mode) => mode === "keep" || !isSmall).map((mode, at) =>
+      make("label", {}, make("input", { type: "radio", name: "mode", value: mode,
+        checked: at === 0 }), make("span", {}, make("strong", {}, say(`${mode}Whole`)),
+        say(`${mode}Hint`)))));
+}
+
+// A form of one button that sends an act; more fields may stand in it.
+function stepForm(name, act, told, ...fields) {
+  const said = makeSaid();
+  const form = make("form", { id: `step-${name}`, noValidate: true }, fields,
+    make("p", { className: "acts" }, make("button", {}, say(`${name}Do`)),
+      make("span", { className: "quiet" }, say("cannot"))), said);
+  form.addEventListener("submit", async (event) => {
+    event.preventDefault();
+    const values = form.isBusy ? null : act(form);
+    if (!values || !isReady(said)) return;
+    form.isBusy = true;
+    told(await sendAct(said, values));
+    form.isBusy = false;
+  });
+  return form;
+}
+
+function wordForm(name, sheet, told, ...fields) {
+  const field = makeField(drawn, `step-${name}`);
+  field.append(make("span", { className: "hint" }, say("wordHint")));
+  return stepForm(name, (form) => {
+    const values = readAll(form, [drawn]);
+    const mode = form.elements.mode ? { mode: form.elements.mode.value } : {};
+    return values && { act: name, batch: sheet.batch, ...mode, ...values };
+  }, told, ...fields, field);
+}
+
+const button = (text, kind, act) => {
+  const made = make("button", { type: "button", className: kind }, text);
+  made.addEventListener("click", act);
+  return made;
+};
+
+const simple = (name) => (sheet, { told }) => [standing(sheet),
+  stepForm(name, () => ({ act: name, batch: sheet.batch }), told)];
+
+const BODIES = {
+  weigh: (sheet) => [standing(sheet)],
+  closed: (sheet) => [verdictTag(sheet.verdict), make("p", { className: "acts" },
+    make("a", { className: "button", href: `#sheet/${sheet.batch}` }, say("toSheet")),
+    make("a", { className: "button second", href: `#batch/${sheet.batch}` }, say("toChart")))],
+  end: simple("end"),
+  close: simple("close"),
+  draw: (sheet, { told }) => [wordForm("draw", sheet, told, modes(sheet))],
+  second: (sheet, { told }) => [standing(sheet), wordForm("second", sheet, told)],
+  held: (sheet, { openAct }) => [standing(sheet), make("p", { className: "acts" },
+    button(say("act.void"), "", () => openAct("void")),
+    button(say("act.tare"), "second", () => openAct("tare", { product: sheet.product })))],
+  measure: (sheet, { measure, pick }) => {
+    const part = partOf(sheet);
+    return [meter(part.measured, part.count), make("p", { className: "acts" },
+      button(say("measureDo"), "go-measure", measure), button(say("pickList"), "second", pick))];
+  },
+};
+
+export const partOf = (sheet) => sheet.second ?? sheet.first;
+
+// The panel of a step. `acts` has what its buttons do: `told` gets the outcome of an act, `measure`
+// and `pick` open these modes, `openAct` the form of another act.
+export function stepPanel(sheet, isOnLane, acts) {
+  const next = nextOf(sheet, isOnLane);
+  const plan = planOf(sheet.population, sheet.mode ?? "keep");
+  const part = partOf(sheet);
+  const figures = { ...sheet, ...plan, count: count(sheet.population), done: part?.measured,
+    all: part?.count, d1: sheet.first?.defective };
+  const text = next === "close" && !sheet.population ? "closeEmpty"
+    : next === "draw" && !plan.second ? "drawAll" : `${next}Text`;
+  return make("section", { className: `panel step ${next}` },
+    make("h2", {}, next === "held" ? icon("held") : null, say(`${next}Title`, figures)),
+    make("p", { className: "lead" }, say(text, figures)), BODIES[next](sheet, acts));
+}
+

@@ -1,0 +1,89 @@
+// The void of the last pack of a lane: a dialog that asks for a reason, and sends the act. The book
+// keeps that the pack is voided; the reason goes with the act and stays among what this browser was
+// told.
+
+import { addWords, say } from "./words.js";
+import { count, grams } from "./numbers.js";
+import { deskChoice, lacks, myDesk, onDesk } from "./mydesk.js";
+import { give, outcome } from "./requests.js";
+import { icon, make, put } from "./page.js";
+import { outcomeWords } from "./refusals.js";
+
+addWords({
+  voidLast: ["Void pack {pack}", "Packung {pack} streichen"],
+  voidNone: ["Void a pack", "Packung streichen"],
+  voidTitle: ["Void pack {pack}?", "Packung {pack} streichen?"],
+  voidHint: ["{net} g, passed. It then no longer counts, and stays in the book as voided. Why?",
+    "{net} g, durchgelassen. Sie zählt dann nicht mehr und bleibt als gestrichen im Buch. Warum?"],
+  voidKept: ["The reason stays in this browser; the book has the void.",
+    "Der Grund bleibt in diesem Browser; das Buch hat die Streichung."],
+  torn: ["The bag is torn", "Der Beutel ist gerissen"],
+  twice: ["It was weighed twice", "Sie wurde doppelt gewogen"],
+  label: ["Wrong label or date", "Falsches Etikett oder Datum"],
+  other: ["Another reason", "Ein anderer Grund"],
+  doVoid: ["Void the pack", "Packung streichen"],
+  back: ["Back", "Zurück"],
+  underWay: ["Under way ..", "Unterwegs .."],
+});
+
+const REASONS = ["torn", "twice", "label", "other"];
+
+// A button, a dialog, and `show`, which puts the pack that `voidable` finds on the button.
+export function voidDialog(voidable) {
+  const button = make("button", { type: "button", className: "second st-void", disabled: true },
+    icon("void"), say("voidNone"));
+  const dialog = make("dialog");
+  let pack;
+  button.addEventListener("click", () => {
+    pack = voidable();
+    if (pack) open(dialog, pack);
+  });
+  const show = () => {
+    const found = voidable();
+    button.disabled = !found;
+    const text = found ? say("voidLast", { pack: count(found.number) }) : say("voidNone");
+    if (button.textContent !== text) button.replaceChildren(icon("void"), text);
+  };
+  return { button, dialog, show };
+}
+
+function reasonChoice(chosen) {
+  return make("div", { className: "picks", role: "radiogroup", "aria-labelledby": "void-title" },
+    REASONS.map((reason) => {
+      const input = make("input", { type: "radio", name: "reason", value: reason });
+      input.addEventListener("change", () => chosen(reason));
+      return make("label", {}, input, make("strong", {}, say(reason)));
+    }));
+}
+
+function open(dialog, pack) {
+  const said = make("p", { className: "said", role: "status" });
+  const go = make("button", { type: "button", disabled: true }, say("doVoid"));
+  const back = make("button", { type: "button", className: "second" }, say("back"));
+  let reason = "";
+  const isReady = () => {
+    go.disabled = !reason || Boolean(lacks());
+    put(said, reason && lacks() ? say(lacks()) : "");
+  };
+  onDesk(isReady);
+  back.addEventListener("click", () => dialog.close());
+  go.addEventListener("click", async () => {
+    go.disabled = true;
+    put(said, say("underWay"));
+    const entry = await outcome(myDesk(), give(myDesk(), { act: "void", pack: pack.number, reason }));
+    said.className = `said ${entry.found.done ? "done" : "refused"}`;
+    put(said, outcomeWords(entry));
+    put(back, say("back"));
+    back.focus();
+  });
+  dialog.replaceChildren(make("h2", { id: "void-title" },
+    say("voidTitle", { pack: count(pack.number) })),
+  make("p", { className: "quiet" }, say("voidHint", { net: grams(pack.net, 1) })),
+  reasonChoice((chosen) => {
+    reason = chosen;
+    isReady();
+  }), deskChoice("void-desk"), make("p", { className: "quiet" }, say("voidKept")), said,
+  make("div", { className: "ends" }, back, go));
+  dialog.setAttribute("aria-labelledby", "void-title");
+  dialog.showModal();
+}
