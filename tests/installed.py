@@ -8,6 +8,7 @@ usage: installed.py DEBIAN      a folder with a Debian, which has in /root hall_
 import json
 import re
 import sys
+from typing import Any
 
 from debian import Debian, need
 
@@ -84,12 +85,27 @@ class Served:
         assert found
         return int(found[1])
 
-    def act(self, name: str, address: str, request: int, /, **members: object) -> int:
-        """The row of an act of desk 101."""
-        body = json.dumps({"desk": 101, "request": request} | members)
+    def post(
+        self, name: str, address: str, members: dict[str, object]
+    ) -> tuple[int, dict[str, Any]]:
+        """The status and the members of what an act of desk 101 is answered."""
+        body = json.dumps({"desk": 101} | members)
         status, said = self.ask(name, address, "/hall/acts", "--data", f"'{body}'")
-        need(status == 200, f"{body} at {address} is answered {status}: {said}")
-        return int(json.loads(said)["row"])
+        need(status in (200, 409), f"{body} at {address} is answered {status}: {said}")
+        return status, json.loads(said)
+
+    def last(self, name: str, address: str) -> int:
+        """The number of the desk's last act there, by the refusal of one under 0."""
+        return int(
+            self.post(name, address, {"request": 0, "act": "day", "day": "2026-12-01"})[1]["kept"]
+        )
+
+    def act(self, name: str, address: str, /, **members: object) -> int:
+        """The row of an act of desk 101 under its next number."""
+        number = {"request": self.last(name, address) + 1}
+        status, said = self.post(name, address, number | members)
+        need(status == 200, f"{members} at {address} is answered {said}")
+        return int(said["row"])
 
 
 def check_files(debian: Debian, how: str) -> None:
@@ -132,7 +148,7 @@ def first_day(debian: Debian, served: Served, blocks: list[str]) -> None:
     need("reject inadequate rejected" in served.text("anna", address, "/hall/packs/7"), "pack 7")
     rows = served.rows("anna", address)
     for request, name in enumerate(("rye", "oats"), 1):
-        row = served.act("anna", address, request, act="product", name=name, nominal=500000)
+        row = served.act("anna", address, act="product", name=name, nominal=500000)
         need(row == rows + request, f"an act is row {row}, behind {rows}")
     # a running book is read without its newest row
     served.waits_for("anna", address, "/list.txt", "product rye nominal 500.000 g")
@@ -166,9 +182,10 @@ def next_book(debian: Debian, served: Served, blocks: list[str]) -> None:
     served.waits_for("anna", ADDRESSES[0], "/list.txt", "batch FIRST")
     need("MORNING" not in served.text("anna", ADDRESSES[0], "/list.txt"), "the new book's list")
     rows = served.rows("anna", ADDRESSES[0])
+    need(served.last("anna", ADDRESSES[0]) == 0, "the desk counts from 1 again")
     need(
-        served.act("anna", ADDRESSES[0], 1, act="product", name="oats", nominal=500000) == rows + 1,
-        "the desk counts from 1 again",
+        served.act("anna", ADDRESSES[0], act="product", name="oats", nominal=500000) == rows + 1,
+        "an act is the next row of the new book",
     )
     print("package: the next book is served at the same address", flush=True)
 
@@ -188,7 +205,7 @@ def two_halls(debian: Debian, served: Served, blocks: list[str]) -> None:
         served.waits_for(name, address, "/list.txt", f"batch {batch}")
         before = served.rows(name, address)
         need(
-            served.act(name, address, 2, act="product", name="salt", nominal=500000) == before + 1,
+            served.act(name, address, act="product", name="salt", nominal=500000) == before + 1,
             f"{name} acts at {address}",
         )
     for name, address in (("anna", juice), ("carl", new), ("carl", old)):
