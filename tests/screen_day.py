@@ -14,7 +14,7 @@ from selenium.webdriver.common.keys import Keys
 
 from browser import Browser, cut_between
 from clients import Lane, need
-from front_room import NAME, TOP, Front, make_hall, run, wait_until
+from front_room import NAME, SHOWN, TOP, Front, make_hall, run, wait_until
 from rows import rows_behind
 
 PEOPLE = {"anna": [101], "ben": [102], "carl": [103], "wall": []}
@@ -64,7 +64,7 @@ class Curl:
     DESK = 103
 
     def __init__(self, password):
-        self.words = ["curl", "-sS", "--cacert", "/etc/hall/front/hall.crt", "--resolve",
+        self.words = ["curl", "-sS", "--cacert", f"/etc/hall/front/{NAME}.crt", "--resolve",
                       f"{NAME}:443:127.0.0.1", "-u", f"carl:{password}"]
         self.request = 1
         self.told = {}
@@ -267,8 +267,7 @@ def another_machine(day):
 
 def check_list(browser):
     """Where the front serves a list, the desk shows it and its fields propose its names."""
-    os.makedirs("/run/hall")
-    with open("/run/hall/list.txt", "w", encoding="ascii") as said:
+    with open(f"{SHOWN}/list.txt", "w", encoding="ascii") as said:
         said.write(f"day {DAY}\nproduct lentils500 nominal 500.000 g tare none\n"
                    "batch LATE product lentils500 state running population 0\nrows 3 left 999997\n")
     browser.reload()
@@ -276,7 +275,7 @@ def check_list(browser):
     proposed = browser.run("return [...document.querySelectorAll('datalist option')]"
                            ".map((one) => one.value)")
     need({"lentils500", "LATE", "beans500"} <= set(proposed), f"proposed are {proposed}")
-    os.remove("/run/hall/list.txt")
+    os.remove(f"{SHOWN}/list.txt")
 
 
 def act_by_curl(day):
@@ -462,8 +461,8 @@ def look_at_charts(day, anna, ben):
 
 def serve_paper(day, batch):
     """What the front serves of a closed batch, as the program says it over a copy of the book."""
-    os.makedirs("/run/hall/papers", exist_ok=True)
-    with open(f"/run/hall/papers/{batch}.txt", "w", encoding="ascii") as text:
+    os.makedirs(f"{SHOWN}/papers", exist_ok=True)
+    with open(f"{SHOWN}/papers/{batch}.txt", "w", encoding="ascii") as text:
         text.write(run(day.program, "paper", "--book", day.book, "--batch", batch))
 
 

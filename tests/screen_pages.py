@@ -5,7 +5,7 @@ import os
 import time
 
 from clients import need
-from front_room import run, wait_until
+from front_room import SHOWN, run, wait_until
 from screen_room import Room, good, grams, opening, weighing
 
 SIZES = [(1920, 1080), (1280, 800), (1024, 768), (768, 1024), (390, 844)]
@@ -122,10 +122,10 @@ def close_last(room, said):
     # the tare of the held batch's product is corrected, so that a pack that counts is inadequate
     lines += ["close RICE-1130-E", f"tare {LONG_PRODUCT} 2025-03-03 13"]
     run(room.program, "run", "--book", room.book, input="\n".join(lines) + "\n")
-    os.makedirs("/run/hall/papers", exist_ok=True)
+    os.makedirs(f"{SHOWN}/papers", exist_ok=True)
     for name, words in (("papers/RICE-1130-E.txt", ["paper", "--batch", "RICE-1130-E"]),
                         ("list.txt", ["list"])):
-        with open(f"/run/hall/{name}", "w", encoding="ascii") as text:
+        with open(f"{SHOWN}/{name}", "w", encoding="ascii") as text:
             text.write(run(room.program, words[0], "--book", room.book, *words[1:]))
 
 

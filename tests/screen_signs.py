@@ -6,7 +6,7 @@ import threading
 import time
 
 from clients import need
-from front_room import wait_until
+from front_room import SHOWN, wait_until
 from screen_room import Room, good, opening, slowly, weighing
 
 SETTINGS = """{"hall": "Nordhalle", "lanes": {"1": "Links", "7": "Reserve"},
@@ -111,15 +111,14 @@ def check_lanes(room, wall):
     wait_board(wall, "rows left in the book: prepare the next one", "#board .alarms")
     write_lanes("lane 1 batch ONE weighing\nlane 2 batch TWO bad 17\nbook full\n")
     wait_board(wall, "The book is full", "#board .alarms")
-    os.remove("/run/hall/lanes.txt")
+    os.remove(f"{SHOWN}/lanes.txt")
     print("screen: lanes that stand say why, and a full book is an alarm", flush=True)
 
 
 def write_lanes(text):
-    os.makedirs("/run/hall", exist_ok=True)
-    with open("/run/hall/lanes.new", "w", encoding="ascii") as said:
+    with open(f"{SHOWN}/lanes.new", "w", encoding="ascii") as said:
         said.write(text)
-    os.rename("/run/hall/lanes.new", "/run/hall/lanes.txt")
+    os.rename(f"{SHOWN}/lanes.new", f"{SHOWN}/lanes.txt")
 
 
 def check_settings(room, wall):
