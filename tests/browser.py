@@ -14,6 +14,7 @@ import time
 from urllib.parse import quote
 
 from selenium import webdriver
+from selenium.common.exceptions import SessionNotCreatedException
 from selenium.webdriver.chrome.service import Service
 from selenium.webdriver.common.by import By
 from selenium.webdriver.common.keys import Keys
@@ -22,6 +23,8 @@ from clients import need
 from front_room import NAME, wait_until
 
 PATIENCE = 30
+# How often Chromium is begun until it answers.
+TRIES = 4
 
 
 class Relay(threading.Thread):
@@ -79,6 +82,18 @@ class Relay(threading.Thread):
         self.slow = False
 
 
+def begin(options, environment):
+    """Chromium, which the driver gives up after a minute; on a busy machine it is tried again."""
+    for attempt in range(TRIES):
+        try:
+            service = Service("/usr/bin/chromedriver", env=environment)
+            return webdriver.Chrome(service=service, options=options)
+        except SessionNotCreatedException:
+            if attempt == TRIES - 1:
+                raise
+    return None
+
+
 class Browser:
     """A browser of a person, with what it keeps in a folder of its own."""
 
@@ -94,8 +109,7 @@ class Browser:
             options.add_argument(word)
         options.set_capability("goog:loggingPrefs", {"browser": "ALL"})
         environment = os.environ | {"LANGUAGE": language}
-        self.driver = webdriver.Chrome(service=Service("/usr/bin/chromedriver", env=environment),
-                                       options=options)
+        self.driver = begin(options, environment)
         self.driver.get(f"https://{person}:{quote(password)}@{NAME}/icon.svg")
         self.open("board")
 
