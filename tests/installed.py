@@ -59,13 +59,15 @@ class Served:
         self.passwords[name] = said.split()[-1]
         need(re.fullmatch("[A-Za-z0-9_-]{20}", self.passwords[name]), f"no password: {said}")
 
+    def curl(self, name: str, address: str, path: str, *more: str) -> str:
+        return (
+            f"{CURL} -u '{name}:{self.passwords[name]}' -w '\\n%{{http_code}}'"
+            f" {' '.join(more)} https://{address}{path}"
+        )
+
     def ask(self, name: str, address: str, path: str, *more: str) -> tuple[int, str]:
         """The status and the body that somebody gets."""
-        said = self.debian.run(
-            f"{CURL} -u '{name}:{self.passwords[name]}' -w '\\n%{{http_code}}'"
-            f" {' '.join(more)} https://{address}{path}",
-            0,
-        )
+        said = self.debian.run(self.curl(name, address, path, *more), 0)
         body, status = said.rsplit("\n", 1)
         return int(status), body
 
@@ -75,10 +77,9 @@ class Served:
         return body
 
     def waits_for(self, name: str, address: str, path: str, word: str) -> None:
-        """Waits until a text has a word."""
-        self.debian.wait(
-            f"{word} in {path} of {address}", lambda: word in self.ask(name, address, path)[1]
-        )
+        """Waits until a text has a word; a front that is reloaded may not know the address yet."""
+        asked = self.curl(name, address, path)
+        self.debian.wait(f"{word} in {path} of {address}", lambda: word in self.debian.run(asked))
 
     def rows(self, name: str, address: str) -> int:
         found = re.match(r"rows (\d+)$", self.text(name, address, "/hall/summary"), re.MULTILINE)
