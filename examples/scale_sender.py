@@ -357,7 +357,8 @@ class Sender:
                 time.sleep(RETRY)
             self.leave()
         number = self.numbers.acknowledged
-        if connections > 1 and number != before + 1 and self.book is None and what != b"end":
+        may_be_new = before == 0 or number != before + 1
+        if connections > 1 and may_be_new and self.book is None and what != b"end":
             report(
                 f"{what.decode()} was said before to a hall that ended without acknowledging it:"
                 " see that the book hasn't it twice"

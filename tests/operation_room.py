@@ -308,6 +308,8 @@ class Tunnel:
                     except OSError:
                         hall = None
                         time.sleep(0.05)
+                        if is_left(scale):
+                            return
         if hall is not None:
             hall.close()
 
@@ -328,6 +330,16 @@ class Tunnel:
             hall.shutdown(socket.SHUT_RDWR)
         except OSError:
             pass
+
+
+def is_left(link: socket.socket) -> bool:
+    """Whether the other end has closed a connection, and nothing of it is left to be read."""
+    try:
+        return link.recv(1, socket.MSG_PEEK | socket.MSG_DONTWAIT) == b""
+    except BlockingIOError:
+        return False
+    except OSError:
+        return True
 
 
 def pieces(link: socket.socket) -> Iterator[bytes]:

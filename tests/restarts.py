@@ -33,14 +33,25 @@ def restart(place: Place, text: str, times: int, **settings: object) -> float:
     return longest
 
 
-def compare(place: Place, given: list[list[str]]) -> int:
-    """Each weight of each lane stands once, in order, and counts. How many packs there are."""
+def without_reported(packs: list[dict[str, str]], reported: str) -> list[str]:
+    """The weights of packs, without those that stand again and that the sender reported: on a
+    machine so slow that it left a connection before the acknowledgement came."""
+    stands: list[str] = []
+    for pack in packs:
+        if not (stands and stands[-1] == pack["gross"] and f" {pack['gross']} was said" in reported):
+            stands.append(pack["gross"])
+    return stands
+
+
+def compare(place: Place, given: list[list[str]], reported: tuple[str, ...] = ()) -> int:
+    """Each weight of each lane stands once, in order, and counts; or it was reported by a sender.
+    How many packs there are."""
     packs = place.packs()
     for lane, wanted in enumerate(given, 1):
         own = [pack for pack in packs if pack["lane"] == str(lane)]
         odd = [pack for pack in own if (pack["signal"], pack["pile"]) != ("pass", "passed")]
         need(not odd, f"lane {lane} has packs that don't count: {odd[:3]}")
-        stands = [pack["gross"] for pack in own]
+        stands = without_reported(own, reported[lane - 1] if reported else "")
         need(stands == [grams(weight) for weight in wanted], difference(lane, stands, wanted))
     return len(packs)
 
@@ -105,7 +116,7 @@ def restarts_over_ports(place: Place, times: int) -> None:
         need(status == 0, f"a sender ends with {status}: {scale.complaints()}")
     status, _ = last.stop()
     need(status == 0, f"the last end has status {status}: {last.errors()}")
-    count = compare(place, given)
+    count = compare(place, given, ("", scales[1].complaints()))
     for scale in scales:
         need(scale.acknowledged() == [grams(weight) for weight in scale.given],
              "each weight was acknowledged once, in order")  # fmt: skip
