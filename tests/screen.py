@@ -6,12 +6,11 @@ usage: screen.py PART PROGRAM ROOM PICTURES      in a room of its own (front_roo
 import sys
 
 from front_room import mount_room
-from screen_busy import run_busy
 from screen_day import run_day
 from screen_pages import run_pages
 from screen_signs import run_signs
 
-PARTS = {"day": run_day, "signs": run_signs, "pages": run_pages, "busy": run_busy}
+PARTS = {"day": run_day, "signs": run_signs, "pages": run_pages}
 
 
 def main() -> None:

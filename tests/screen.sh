@@ -7,7 +7,6 @@
 #           stores hold that isn't theirs
 #   pages   each page at five sizes, light and dark, in both languages, with 1, 4 and 16 lanes and
 #           long names: no text cut or overlapping, contrast, labels and roles, no layout shift, size
-#   busy    the board with 16 lanes at 20 packs a second each: processor and memory
 #
 # usage: tests/screen.sh [PICTURES [PART..]]    HALL names the program; screenshots are left in
 #                                               PICTURES; without a PART all are done
@@ -31,7 +30,7 @@ fi
 mkdir -p "$pictures"
 pictures=$(realpath "$pictures")
 chmod 755 "$room"
-[ $# -gt 0 ] || set -- day signs pages busy
+[ $# -gt 0 ] || set -- day signs pages
 for part; do
     mkdir "$room/$part"
     # the Python for which Debian's selenium is

@@ -14,14 +14,15 @@ function scales(limits, wide, high) {
   const [low, top] = [t2 - .45 * error, nominal + 1.3 * error];
   const edge = Math.max(4, high * .04);
   const isNamed = high > NAMED.high && wide > NAMED.wide;
-  const right = wide - (isNamed ? Math.max(38, high * .2) : edge);
+  const letters = Math.round(Math.max(15, Math.min(28, high / 8)));
+  const right = wide - (isNamed ? letters * 2 + 8 : edge);
   const held = (net) => Math.min(top, Math.max(low, net));
   return {
     isNamed, right,
     up: (net) => round(edge + (top - held(net)) / (top - low) * (high - 2 * edge)),
     across: (at) => round(edge + (at + .5) * (right - edge * 2) / MOST),
     size: Math.max(2.5, Math.min(9, high / 26)),
-    letters: Math.round(Math.max(15, Math.min(28, high / 8))),
+    letters,
   };
 }
 

@@ -1,2 +1,0 @@
-def run_busy(program, folder, pictures):
-    pass
