@@ -116,7 +116,7 @@ def restarts_over_ports(place: Place, times: int) -> None:
         need(status == 0, f"a sender ends with {status}: {scale.complaints()}")
     status, _ = last.stop()
     need(status == 0, f"the last end has status {status}: {last.errors()}")
-    count = compare(place, given, ("", scales[1].complaints()))
+    count = compare(place, given, tuple(scale.complaints() for scale in scales))
     for scale in scales:
         need(scale.acknowledged() == [grams(weight) for weight in scale.given],
              "each weight was acknowledged once, in order")  # fmt: skip
