@@ -149,7 +149,7 @@ def prepare(anna):
     anna.told(anna.act("product", name="rice250", nominal="250"), "(8 ProductKnown)")
     form = anna.act("product", name="ri ce", nominal="4.9")
     anna.wait_text("#act-product-name-bad", "A-Z")
-    anna.wait_text("#act-product-nominal-bad", "from 5 to 10000")
+    anna.wait_text("#act-product-nominal-bad", "from 5 to 10\u202f000")
     anna.told(anna.act("tare", product="rice250", day=DAY, tare="10,0 g"), "row 3")
     anna.told(anna.act("open", batch="MORNING", product="rice250"), "row 4")
 
