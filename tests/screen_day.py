@@ -307,14 +307,13 @@ def grosses(draw, count):
 
 
 def weigh(day, anna, wall):
-    """Two lanes weigh; a reject is shown, a batch is held and freed by its tare."""
+    """Two lanes weigh; a batch is held and freed by its tare."""
     last = threading.Event()
     morning = grosses(day.draw, 110)
     noon = [round(day.draw.gauss(261_500, 2_500)) for _ in range(1_000)]
     day.weigh(["MORNING", "NOON"], [slowly(morning, 1, last), slowly(noon, 10)])
     wall.view(1920, 1080)
     wall.open("board")
-    wall.wait_text("#board", "inadequate", 60)
     wait_until(lambda: weighed(day.rows(), 1) == 109 and weighed(day.rows(), 2) == 1_000,
                "109 and 1 000 packs", 240)
     form = anna.act("end", batch="MORNING", twice=True)
@@ -332,7 +331,7 @@ def weigh(day, anna, wall):
     day.curl.act(act="end", batch="BARLEY")
     day.curl.act(act="close", batch="BARLEY")
     wall.picture(f"{day.pictures}/board.png")
-    print("screen: the board shows a reject, a held batch and that it is free again", flush=True)
+    print("screen: the board shows a held batch and that it is free again", flush=True)
 
 
 def weighed(rows, lane):

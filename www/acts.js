@@ -268,12 +268,16 @@ function clear(form) {
 
 // ---- what this browser was told
 
+// The units of the members of an act, whose values are whole thousandths; of goods by volume the
+// nominal quantity is in ml.
+const UNITS = { gross: "g", empty: "g", tare: "g", nominal: "g", density: "g/l" };
+
 // An act in words, as it was kept.
 export function actWords({ act, members }) {
   const spelled = members.split(",").slice(1).map((member) => {
     const [, name, value] = /^"(\w+)":"?([^"]*)"?$/.exec(member) ?? ["", "", member];
-    const isMass = ["gross", "empty", "tare", "nominal"].includes(name);
-    return isMass ? `${spell(Number(value))} g` : value;
+    const unit = act === "product_ml" && name === "nominal" ? "ml" : UNITS[name];
+    return unit ? `${spell(Number(value))} ${unit}` : value;
   });
   return [say(`act.${act}`), spelled.join(", ")];
 }
