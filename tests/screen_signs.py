@@ -172,8 +172,9 @@ def check_lane(room, wall, anna):
     need(anna.run("return document.querySelectorAll('#lane .st-last tbody tr').length") == 10,
          "the last ten packs")
     void_last(room, anna)
+    # the last pack, and the lane's cell has ended
     go_on.set()
-    anna.wait_text("#lane .st-signal", "PASS", 90)
+    anna.wait_text("#lane .st-signal", "No batch", 90)
     anna.view(1400, 1000)
     print(f"screen: the signal has {share:.2f} of a tablet; a pack was voided there", flush=True)
 
