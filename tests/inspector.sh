@@ -1,4 +1,8 @@
 #!/bin/sh
-# Runs each command of docs/INSPECTOR.md (tests/page.sh says how). With the word --write it is
-# brought up to date.
-exec "$(dirname "$0")/page.sh" docs/INSPECTOR.md "$@"
+# Runs each command of docs/INSPECTOR.md (tests/page.sh says how), whose German page has the same
+# ones, and tries the count of openings. With the word --write both pages are brought up to date.
+set -eu
+here=$(dirname "$0")
+"$here/page.sh" docs/INSPECTOR.md "$@"
+"$here/../tools/translations" "$@"
+"$here/openings.py"
