@@ -69,9 +69,10 @@ IsSampleInRange view = length view.first + length view.second ≤ MAX_DRAWN
 abbrev pub IsLawfulSomewhere : ActView → Type 0
 IsLawfulSomewhere view = (before : List Entry) × IsLawful before view.entry
 
--- so is each row of a page, which has no more than it may
+-- so is each row of a page, which has no more than it may and lies within a book
 pub record IsPageInRange (view : RowsView) : Type 0 where
   pub few : length view.acts ≤ MAX_PAGE
+  pub inside : view.before + length view.acts ≤ MAX_ROWS
   pub lawful : AllByRecursion IsLawfulSomewhere view.acts
 
 -- what a reply tells is in range
