@@ -3,7 +3,7 @@
 
 import fs from 'fs';
 
-const QUESTION = new RegExp('^/hall/(summary|lanes/[0-9]{1,3}|packs/[0-9]{1,20}' +
+const QUESTION = new RegExp('^/hall/(summary|lanes/[0-9]{1,3}|(packs|acts|rows)/[0-9]{1,20}' +
     '|batches/[A-Za-z0-9._-]{1,32}(/sample)?)$');
 const ACTS = '/hall/acts';
 
@@ -81,7 +81,8 @@ async function pass(r) {
     r.headersOut['Cache-Control'] = 'no-store';
     r.headersOut['Content-Type'] = reply.headersOut['Content-Type'];
     if (reply.headersOut['Book-Row']) r.headersOut['Book-Row'] = reply.headersOut['Book-Row'];
-    r.return(reply.status, reply.responseText);
+    // as bytes: a shipment is no text
+    r.return(reply.status, reply.responseBuffer);
 }
 
 export default { pass };

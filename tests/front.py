@@ -83,6 +83,7 @@ def check_paths(front):
             ("GET", "/hall/packs/x", 404), ("GET", "/hall/batches/A/sample/x", 404),
             ("GET", "/hall/lanes/1", 200), ("GET", "/hall/batches/A", 200),
             ("GET", "/hall/batches/A/sample", 409), ("GET", "/hall/packs/1", 409),
+            ("GET", "/hall/acts/1", 200), ("POST", "/hall/acts/1", 405), ("GET", "/hall/rows/1", 200),
             ("GET", "/hall/%2e%2e/etc/passwd", 404), ("POST", "/index.html", 403)):
         expect(anna.send(method, path), status, f"{method} {path}")
 
