@@ -7,7 +7,8 @@ bytes of the rows, by docs/FORMATS.md. Then:
 - the first column is what was answered: by hand in the worked days, by `run` in the drawn books;
 - the third column as a script makes a book whose rows are the same but for who asked, answered by
   the first column; so does the text behind N rows over a book that holds the first N;
-- the text behind N rows is the end of the whole text, and nothing behind the last row.
+- the text behind N rows is the end of the whole text, and nothing behind the last row;
+- the pages that a script asks (`acts N`), each after the last row of the one before, are the text.
 One drawn book is shipped with a caller that no hall of today names.
 
 usage: tests/acts.py [BOOKS [SEED]]     (HALL names another program than the one that `./hall`
@@ -33,6 +34,9 @@ SECONDS = 60
 SETUP = ("@163 1 product P 250\n@163 2 tare P 2025-01-01 10\n@163 3 open L1 P\n@163 4 open L2 P\n")
 DESKS = (110, 111)
 HEAD = 16
+# The most lines of a page, and the lines of the summary, with which a run ends.
+PAGE = 128
+SUMMARY = 7
 # A worked day whose script is longer is passed over: each of its rows waits for the disk.
 LONGEST_DAY = 20_000
 # Where a row says who asked it, and the number of a caller that is neither script, lane nor door.
@@ -132,6 +136,9 @@ class Program:
         for after in {1, chance.randint(0, len(lines) + 1), len(lines), len(lines) + 1, 1_000_000}:
             wanted = "".join(f"{line}\n" for line in lines[after:])
             need(self.acts(book, after) == wanted, f"behind row {after} there is another text")
+        asked = [f"acts {after}" for after in range(0, len(lines) + 1, PAGE)]
+        told = self.replayed(book, asked).splitlines()
+        need(told[:-SUMMARY] == lines, f"{len(asked)} pages aren't the text")
 
     def check_replay(self, columns, slots, held):
         """A book of the first rows, and then the others."""

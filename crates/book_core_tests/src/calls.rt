@@ -247,9 +247,7 @@ fn is_right(book: &mut Book, batch: Name, product: Name) -> bool {
         return false;
     }
     draw_pair(book, batch);
-    is_sample(book, batch, &[7, 6])
-        && are_told(book, batch, product)
-        && are_last_rows(book, batch)
+    is_sample(book, batch, &[7, 6]) && are_told(book, batch, product) && are_last_rows(book, batch)
 }
 
 // Whether an act of the desk 101, at its request 1, is known to stand in the row 11.

@@ -56,11 +56,7 @@ fn tell_sample(
 }
 
 // The rows behind so many, a page of them.
-fn tell_rows(
-    alloc: Global,
-    state: &State,
-    after: u32,
-) -> Result<Result<Reply, Refusal>, NoMemory>
+fn tell_rows(alloc: Global, state: &State, after: u32) -> Result<Result<Reply, Refusal>, NoMemory>
     ensures { IfOk result (λ answer. answer
         ≡ told.question_told state.now.entries (Question.Rows after)) }
 {

@@ -47,12 +47,7 @@ fn add_row(state: &State, number: u32, acts: &mut Vec<ActView>) -> Result<(), No
 }
 
 // The rows behind so many, up to the one of a number.
-fn copy_rows(
-    alloc: Global,
-    state: &State,
-    before: u32,
-    last: u32,
-) -> Result<Vec<ActView>, NoMemory>
+fn copy_rows(alloc: Global, state: &State, before: u32, last: u32) -> Result<Vec<ActView>, NoMemory>
     requires order { before ≤ last }
     requires inside { last ≤ length state.now.entries }
     ensures { IfOk result (λ acts. acts.items ++ told.views_after last state.now.entries

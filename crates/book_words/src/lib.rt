@@ -18,6 +18,6 @@ pub use page::ActList;
 pub use refusal::{MAX_REFUSAL_NAME, Refusal};
 pub use reply::{Answered, Refused, Reply};
 pub use views::{
-    ActView, Fails, LaneView, MAX_DRAWN, MAX_PAGE, PackView, RowsView, SampleView, Sheet, SummaryView,
-    TestView, Verdict,
+    ActView, Fails, LaneView, MAX_DRAWN, MAX_PAGE, PackView, RowsView, SampleView, Sheet,
+    SummaryView, TestView, Verdict,
 };

@@ -247,10 +247,12 @@ pub fn summary(alloc: Global, entries: &[Entry]) -> Result<SummaryView, NoMemory
 // The verdict that the entry at the end of a list was told, where that closes a batch.
 fn verdict_of_last(alloc: Global, until: &[Entry]) -> Result<Option<Verdict>, NoMemory> {
     match until.last() {
-        Some(Entry {
-            act: Act::Close { batch },
-            ..
-        }) => Ok(Some(verdict_of(alloc, until, *batch)?)),
+        Some(
+            Entry {
+                act: Act::Close { batch },
+                ..
+            },
+        ) => Ok(Some(verdict_of(alloc, until, *batch)?)),
         _ => Ok(None),
     }
 }
