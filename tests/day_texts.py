@@ -74,11 +74,11 @@ def read_day(text):
     if lines[0].startswith("hall "):
         words = lines.pop(0).split()[1:]
     for line in "\n".join(lines).replace("setup\n", f"{SETUP}\n", 1).splitlines():
-        command, arrow, answer = line.partition(" => ")
+        command, arrow, answer = line.partition(" =>")
         if arrow:
             commands = commands_of(command)
             script += commands
-            printed += answers_of(answer, len(commands))
+            printed += answers_of(answer[1:], len(commands)) if answer else []
         elif line.startswith("#"):
             script.append(line)
         elif line:

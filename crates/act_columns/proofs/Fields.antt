@@ -16,7 +16,7 @@ use Rattle.book_texts.specs.Words.{part_text, fails_text, signal_text, verdict_t
 use Rattle.hall_limits.specs.declared.TheConstants.{MAX_LANE, MAX_DOOR, MAX_ROWS}
 use Rattle.paper_form.proofs.FieldTexts.{are_above, above_append, plain_number}
 use Rattle.script_lines.specs.Lines.{ended_lines}
-use Rattle.act_lines.specs.declared.types.ActView.{ActView}
+use Rattle.book_words.specs.declared.views.ActView.{ActView}
 use Rattle.act_lines.specs.ActLines.{asked_line, by_text, answer_words, told_words, act_text}
 use Rattle.act_lines.specs.ActViews.{view_behind, views_behind}
 use Rattle.act_reads.specs.Commands.{FitsScript, script_of}

@@ -10,7 +10,7 @@ use Rattle.script_lines.specs.declared.command.Allowed.{Allowed}
 use Rattle.script_lines.specs.declared.command.Line.TheVariants.{Asks}
 use Rattle.script_lines.specs.Lines.{ended_lines}
 use Rattle.script_lines.specs.Script.{lines_in}
-use Rattle.act_lines.specs.declared.types.ActView.{ActView}
+use Rattle.book_words.specs.declared.views.ActView.{ActView}
 use Rattle.act_lines.specs.ActLines.{told_words}
 use Rattle.act_lines.specs.ActViews.{views_after, acts_text}
 use Rattle.act_reads.specs.Commands.{command_of}

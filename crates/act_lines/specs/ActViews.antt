@@ -1,37 +1,8 @@
--- The entries of a list as they are told, and the book as text.
-use Rattle.std.specs.Prelude.{ℕ, ◌+◌, List, [], ◌∷◌, ◌++◌, length, take, drop, flat_map, Option, Some, None}
-use Rattle.book_words.specs.declared.act.Act.{Act}
-use Rattle.book_words.specs.declared.act.Act.TheVariants.{Close}
+-- The book as text.
+use Rattle.std.specs.Prelude.{ℕ, List, flat_map}
 use Rattle.book_words.specs.declared.act.Entry.{Entry}
-use Rattle.book_words.specs.declared.views.Verdict.{Verdict}
-use Rattle.book_words.specs.Signals.{with_act}
-use Rattle.book_words.specs.Verdicts.{verdict_of}
-use Rattle.act_lines.specs.declared.types.ActView.{ActView}
+pub use Rattle.book_words.specs.Pages.{verdict_behind, view_behind, views_behind, views_after}
 use Rattle.act_lines.specs.ActLines.{act_text}
-
--- the verdict that an act is told behind some entries: that of a closing
-abbrev pub verdict_behind : List Entry → Act → Option Verdict
-verdict_behind before (Close batch) = Some (verdict_of (with_act before (Close batch)) batch)
-verdict_behind before _ = None
-
--- an entry as it is told behind those before it
-abbrev pub view_behind : List Entry → Entry → ActView
-view_behind before entry =
-    record {
-      row = length before + 1;
-      entry = entry;
-      verdict = verdict_behind before entry.act;
-    }
-
--- some entries as they are told behind those before them, each behind one more
-abbrev pub views_behind : List Entry → List Entry → List ActView
-views_behind before [] = []
-views_behind before (entry ∷ entries) =
-    view_behind before entry ∷ views_behind (before ++ entry ∷ []) entries
-
--- the entries of a list behind so many rows
-abbrev pub views_after : ℕ → List Entry → List ActView
-views_after after entries = views_behind (take after entries) (drop after entries)
 
 -- the book as text: the line of each entry behind so many rows, in order
 abbrev pub acts_text : ℕ → List Entry → List ℕ

@@ -110,7 +110,7 @@ accepts book before entry same lawful room =
     let many : length book.entries ≡ length before = same_length book.entries before same in
     record {
       answered = ap (answer book.limit book.entries) (asks_it book.entries entry)
-          ∙ answered_alike book.entries before same book.limit (ask_of entry)
+          ∙ answered_alike book.entries before same book.limit (ask_of entry) refl
           ∙ is_accepted book.limit before entry lawful room;
       adds = ap (added book.limit book.entries script_caller) (asks_it book.entries entry)
           ∙ is_added book.limit book.entries script_caller entry here (omega (arith, many, room));

@@ -10,7 +10,7 @@ use Rattle.book_state.specs.Known.{entry_numbered}
 use Rattle.report_run.specs.Reports.{text_if_there}
 use Rattle.act_lines.specs.ActLines.{act_text}
 use Rattle.act_lines.specs.ActViews.{view_behind, views_behind, acts_text}
-use Rattle.acts_run.specs.Rows.{view_at}
+use Rattle.book_views.specs.RowViews.{row_view}
 
 -- behind all rows nothing is left
 pub no_acts : (entries : List Entry) (before : ℕ) → length entries ≤ before
@@ -30,13 +30,13 @@ numbered_next entries before =
 -- the line of the next row comes next
 pub next_act : (entries : List Entry) (before : ℕ) → before < length entries
     → acts_text before entries
-    ≡ text_if_there act_text (view_at entries (before + 1)) ++ acts_text (before + 1) entries
+    ≡ text_if_there act_text (row_view entries (before + 1)) ++ acts_text (before + 1) entries
 next_act entries before inside = by_place (slice_get_cases entries before).1
   where
     by_entry : (entry : Entry) → slice_get entries before ≡ Some entry
         → get_or entries before entry ≡ entry
         → acts_text before entries
-        ≡ text_if_there act_text (view_at entries (before + 1)) ++ acts_text (before + 1) entries
+        ≡ text_if_there act_text (row_view entries (before + 1)) ++ acts_text (before + 1) entries
     by_entry entry is at =
         let more = acts_text (before + 1) entries in
         let here = view_behind (take before entries) entry in
@@ -60,6 +60,6 @@ next_act entries before inside = by_place (slice_get_cases entries before).1
         × (slice_get entries before ≡ Some entry) × (get_or entries before entry ≡ entry))
         ⊎ ((length entries ≤ before) × (slice_get entries before ≡ None))
         → acts_text before entries
-        ≡ text_if_there act_text (view_at entries (before + 1)) ++ acts_text (before + 1) entries
+        ≡ text_if_there act_text (row_view entries (before + 1)) ++ acts_text (before + 1) entries
     by_place (inl found) = by_entry found.0 found.2 found.3
     by_place (inr past) = absurd (omega (arith, past.0, inside))

@@ -2,7 +2,6 @@
 #![tactic(auto)]
 
 mod print;
-mod rows;
 mod sizes;
 
 pub use print::print_acts;

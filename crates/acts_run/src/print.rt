@@ -6,14 +6,14 @@ ghost use Rattle.report_run.specs.Reports.{text_if_there};
 ghost use Rattle.act_lines.specs.ActLines.{act_text};
 ghost use Rattle.act_lines.specs.ActViews.{acts_text};
 ghost use Rattle.act_replay.specs.Replay.{CanBeReplayed};
-ghost use Rattle.acts_run.specs.Rows as told;
+ghost use Rattle.book_views.specs.RowViews.{row_view};
 
-use crate::rows::view_at;
 use crate::sizes::fit_fields;
 use act_lines::push_act;
 use act_replay::acts_replayed;
 use book_state::State;
 use book_store::Store;
+use book_views::view_row;
 use disk_core::{Disk, Partly, Sink};
 use report_run::{BUFFER_BYTES, empty_buffer, flush, make_way};
 use std::alloc::Global;
@@ -29,12 +29,12 @@ fn print_row<K: Sink>(
     requires room { BUFFER_BYTES ≤ vec_capacity text.old }
     ensures printed { OnOk result (HasPrinted (output_at K.Sink output.old)
         (output_at K.Sink output.new) text.old.items text.new.items
-        (text_if_there act_text (told.view_at state.now.entries number))) }
+        (text_if_there act_text (row_view state.now.entries number))) }
     ensures cut { OnErr result (IsCutIn (output_at K.Sink output.old)
         (output_at K.Sink output.new) [] text.old.items) }
     ensures room { vec_capacity text.new ≡ vec_capacity text.old }
 {
-    if let Some(view) = view_at(state, number) {
+    if let Some(view) = view_row(state, number) {
         make_way(output, text)?;
         push_act(text, &view);
     }

@@ -6,6 +6,7 @@ pub(crate) enum Part {
     Name,
     Lane,
     Pack,
+    Row,
     /// The word of a draw.
     Draw,
     /// One of some words.
@@ -72,7 +73,7 @@ const ACTS: [(&[u8], &str, &[Part]); 13] = [
 ];
 
 // The other commands.
-const OTHERS: [(&[u8], &str, &[Part]); 6] = [
+const OTHERS: [(&[u8], &str, &[Part]); 7] = [
     (
         b"work",
         "work LANE BATCH, of a lane that the hall has (--lanes)",
@@ -83,6 +84,7 @@ const OTHERS: [(&[u8], &str, &[Part]); 6] = [
     (b"lane", "lane LANE", &[Part::Lane]),
     (b"sample", "sample BATCH", &[Part::Name]),
     (b"summary", "summary", &[]),
+    (b"acts", "acts ROW, or acts 0 for the first", &[Part::Row]),
 ];
 
 // The command of a word, by a table.

@@ -5,7 +5,7 @@ use crate::types::Reason;
 /// The most bytes of a name.
 const MAX_NAME: usize = 32;
 
-/// The greatest number of a lane, of a pack or a request, and of a draw that can be read.
+/// The greatest number of a lane, of a pack, a row or a request, and of a draw that can be read.
 const MAX_LANE: u64 = u8::MAX as u64;
 
 const MAX_PACK: u64 = u32::MAX as u64;
@@ -32,6 +32,7 @@ pub(crate) fn fault_in(part: Part, word: &[u8]) -> Option<Reason<'_>> {
         Part::Name if word.len() > MAX_NAME => Some("more than 32 bytes in the name"),
         Part::Lane if is_above(word, MAX_LANE) => Some("a lane is 1 to 16, not"),
         Part::Pack if is_above(word, MAX_PACK) => Some("a pack is 1 to 4294967295, not"),
+        Part::Row if is_above(word, MAX_PACK) => Some("a row is 0 to 4294967295, not"),
         Part::Draw if is_above(word, u64::MAX) => {
             Some("a word of a draw is 0 to 18446744073709551615, not")
         }

@@ -1,5 +1,5 @@
 -- The texts of what the book answers. Each line ends in LF.
-use Rattle.std.specs.Prelude.{ℕ, ℤ, pos, Bool, List, [], ◌∷◌, ◌++◌, ◌==◌, true, false, if◌then◌else◌, codes, decimal, Option, Some, None, Result, Ok, Err}
+use Rattle.std.specs.Prelude.{ℕ, ℤ, pos, Bool, List, [], ◌∷◌, ◌+◌, ◌++◌, ◌==◌, length, flat_map, true, false, if◌then◌else◌, codes, decimal, Option, Some, None, Result, Ok, Err}
 use Rattle.hall_units.specs.Grams.{gram_text}
 use Rattle.hall_units.specs.Days.{day_text}
 use Rattle.pack_judge.specs.declared.types.Signal.{Signal}
@@ -15,6 +15,8 @@ use Rattle.book_words.specs.declared.views.PackView.{PackView}
 use Rattle.book_words.specs.declared.views.LaneView.{LaneView}
 use Rattle.book_words.specs.declared.views.SampleView.{SampleView}
 use Rattle.book_words.specs.declared.views.SummaryView.{SummaryView}
+use Rattle.book_words.specs.declared.views.ActView.{ActView}
+use Rattle.book_words.specs.declared.views.RowsView.{RowsView}
 use Rattle.book_words.specs.declared.reply.Reply.{Reply}
 use Rattle.book_words.specs.declared.reply.Reply.TheVariants as reply
 use Rattle.book_words.specs.declared.reply.Answered.{Answered}
@@ -23,6 +25,8 @@ use Rattle.book_words.specs.declared.refusal.Refusal.{Refusal}
 use Rattle.book_words.specs.declared.refusal.Refusal.TheVariants as why
 use Rattle.book_words.specs.Names.{bytes_of}
 use Rattle.book_words.specs.Numbers.{refusal_number, refusal_name}
+use Rattle.row_format.specs.Spelling.{four, new_layout, row_bytes}
+use Rattle.act_lines.specs.ActLines.{act_text}
 pub use Rattle.book_texts.specs.Words.{class_text, mode_text, pile_text, signal_text, state_text, unit_text, verdict_text}
 
 -- the row of an accepted act
@@ -180,6 +184,25 @@ sample_text view =
     codes "sample " ++ bytes_of view.batch ++ codes " first" ++ packs_text view.first
     ++ second_text view.second ++ codes "\n"
 
+-- the lines of some rows, in order
+abbrev pub lines_of : List ActView → List ℕ
+lines_of acts = flat_map act_text acts
+
+-- a row as it stands in a book
+abbrev pub row_of : ActView → List ℕ
+row_of view = row_bytes new_layout view.row view.entry
+
+-- some rows as they stand in a book, one behind the other
+abbrev pub rows_of : List ActView → List ℕ
+rows_of acts = flat_map row_of acts
+
+-- a page as a shipment: its name, the number of the rows up to the last one of the page, that of
+-- the rows before it, and its rows
+unfoldable pub shipment_text : RowsView → List ℕ
+shipment_text view =
+    codes "AQHSHIP2" ++ four (view.before + length view.acts) ++ four view.before
+    ++ rows_of view.acts
+
 -- what is told where nothing stands against it
 abbrev pub reply_text : Reply → List ℕ
 reply_text (reply.Done row) = done_line row
@@ -190,6 +213,8 @@ reply_text (reply.PackIs view) = pack_text view
 reply_text (reply.LaneIs view) = lane_text view
 reply_text (reply.SampleIs view) = sample_text view
 reply_text (reply.SummaryIs view) = summary_text view
+reply_text (reply.RowsAre view) = lines_of view.acts
+reply_text (reply.ShipmentIs view) = shipment_text view
 
 -- the text of an answer
 abbrev pub answer_text : Answered → List ℕ

@@ -6,6 +6,7 @@ ghost use Rattle.batch_reports.specs.Texts.{answer_text, reply_text, done_line, 
 
 use crate::lanes::push_lane;
 use crate::packs::push_pack;
+use crate::pages::{push_lines, push_shipment};
 use crate::samples::push_sample;
 use crate::sheets::push_sheet;
 use crate::summaries::push_summary;
@@ -14,10 +15,10 @@ use book_words::{Answered, Reply, Verdict};
 use hall_units::{NoMemory, make_room};
 use pack_judge::Signal;
 
-/// No text of an answer or of a refusal has more bytes. The longest is that of the samples: 160
-/// packs in 20 digits and a blank each, and a name of 32 bytes, which is 3 413 bytes. So a response
-/// of 4 096 bytes has room for a text and the head before it.
-pub const TEXT_ROOM: usize = 3_584;
+/// No text of an answer or of a refusal has more bytes. The longest is a page of 128 lines: the
+/// room of each is 256 bytes. That of the samples, 160 packs in 20 digits and a blank each and a
+/// name of 32 bytes, has 3 413 bytes, and a page as a shipment 12 304.
+pub const TEXT_ROOM: usize = 32_768;
 
 /// Appends the text of an answer. With room for `TEXT_ROOM` bytes it takes no memory; where memory
 /// is refused nothing is appended.
@@ -45,6 +46,8 @@ fn push_reply(to: &mut Vec<u8>, reply: &Reply)
         Reply::LaneIs(view) => push_lane(to, view),
         Reply::SampleIs(view) => push_sample(to, view),
         Reply::SummaryIs(view) => push_summary(to, view),
+        Reply::RowsAre(view) => push_lines(to, view.acts.as_slice()),
+        Reply::ShipmentIs(view) => push_shipment(to, view),
     }
 }
 

@@ -5,6 +5,7 @@
 mod answers;
 mod lanes;
 mod packs;
+mod pages;
 mod refusals;
 mod samples;
 mod sheets;

@@ -1,10 +1,9 @@
 -- What the calls of a book answer.
-use Rattle.std.specs.Prelude.{◌≡◌, ⊤, ℕ, ◌+◌, Bool, true, false, List, [], ◌∷◌, ◌++◌, length, Option, Some, None, Result, Ok, Err, IsSome}
+use Rattle.std.specs.Prelude.{◌≡◌, ℕ, ◌+◌, Bool, true, false, List, [], ◌∷◌, ◌++◌, length, Option, Some, None, Result, Ok, Err, IsSome}
 use Rattle.std.specs.List.{cons_option}
 use Rattle.book_words.specs.declared.act.Act.{Act}
 use Rattle.book_words.specs.declared.act.Act.TheVariants.{Weigh}
 use Rattle.book_words.specs.declared.act.Question.{Question}
-use Rattle.book_words.specs.declared.act.Question.TheVariants.{Sample}
 use Rattle.book_words.specs.declared.act.Want.{Want}
 use Rattle.book_words.specs.declared.act.Want.TheVariants as want
 use Rattle.book_words.specs.declared.act.Ask.{Ask}
@@ -13,8 +12,8 @@ use Rattle.book_words.specs.declared.reply.Answered.{Answered}
 use Rattle.book_words.specs.declared.reply.Refused.{Refused}
 use Rattle.book_words.specs.Refusals.{book_full, desk_refusals, refusals_of}
 use Rattle.book_words.specs.Numbers.{refusal_number, EachFrom}
+use Rattle.book_words.specs.Views.{takes_memory}
 use Rattle.book_words.specs.Answers.{entry_for, act_answer, want_added, added}
-use Rattle.book_rules.specs.Prepared.{is_for_sample}
 use Rattle.book_core.specs.declared.types.Step.{Step}
 use Rattle.book_core.specs.declared.types.Step.TheVariants.{New, Known}
 use Rattle.book_core.specs.declared.types.BookError.{BookError}
@@ -99,12 +98,11 @@ handed_on (Ok answered) = Ok answered
 handed_on (Err refused) = Err (error.Refused refused)
 
 -- what may find no memory: an act that adds an entry, but no weighing for which there is room, and
--- a question for a sample
+-- a question that takes memory
 abbrev pub MayLackMemory : BookView → ℕ → Ask → Want → Type 0
 MayLackMemory book by ask (want.Act act) =
     IsSome (added book.limit book.entries by ask) × HasNoRoom book act
-MayLackMemory book by ask (want.Question (Sample batch)) = ⊤
-MayLackMemory book by ask (want.Question question) = ⊥
+MayLackMemory book by ask (want.Question question) = takes_memory question ≡ true
 
 -- a book gives the answer that is wanted, unless it may and does find no memory
 abbrev pub GivesAnswer : Type 0 → Result Answered BookError → Result Answered Refused → Type 0
@@ -116,6 +114,6 @@ abbrev pub list_behind : Result Answered BookError → List Entry → Option Ent
 list_behind (Err error.NoMemory) entries new = entries
 list_behind _ entries new = entries ++ cons_option new []
 
--- a look gives the answer that is wanted; only one for a sample may find no memory
+-- a look gives the answer that is wanted; only a question that takes memory may find none
 abbrev pub GivesLook : Question → Result Answered BookError → Result Answered Refused → Type 0
-GivesLook question given wanted = GivesAnswer (is_for_sample question ≡ true) given wanted
+GivesLook question given wanted = GivesAnswer (takes_memory question ≡ true) given wanted

@@ -82,9 +82,9 @@ impl Book {
     /// the same answer again, or is refused; and a question is looked up.
     ///
     /// Of several refusals that hold, the one with the least number is answered, with the length of
-    /// the list. Only where the ask would have added an entry, or asks for a sample, may there be
-    /// no memory instead, and for a weighing only where no row is spare; the list then stays as it
-    /// is.
+    /// the list. Only where the ask would have added an entry, or asks for a sample or a page, may
+    /// there be no memory instead, and for a weighing only where no row is spare; the list then
+    /// stays as it is.
     pub fn ask(&mut self, by: u16, ask: &Ask) -> Result<Answered, BookError>
         ensures answer { GivesAnswer (MayLackMemory self.old by ask.now ask.now.want) result
             (answer self.old.limit self.old.entries ask.now) }
@@ -304,7 +304,7 @@ impl Book {
         }
     }
 
-    /// Answers a question over the list as it stands. Only a question for a sample takes memory.
+    /// Answers a question over the list as it stands. Only one for a sample or a page takes memory.
     pub fn look(&self, question: &Question) -> Result<Answered, BookError>
         ensures answer { GivesLook question.now result
             (answer self.now.limit self.now.entries (asked_question question.now)) }

@@ -2,8 +2,8 @@ use crate::begun::{MARCH_3, asked, entry_of, named, pass, setup, take_all, take_
 use annex_tables::Mode;
 use book_core::{Book, BookError, Step};
 use book_words::{
-    Act, Answered, BatchState, Entry, LaneView, Name, PackView, Prior, Question, Reply, Sheet,
-    SummaryView, TestView, Unit,
+    Act, ActView, Answered, BatchState, Entry, LaneView, Name, PackView, Prior, Question, Reply,
+    RowsView, Sheet, SummaryView, TestView, Unit,
 };
 use pack_judge::{Class, Pile, Signal, Tally};
 use std::alloc::Global;
@@ -153,6 +153,62 @@ fn is_sample(book: &Book, batch: Name, packs: &[u64]) -> bool {
     }
 }
 
+// Whether a page is these rows, behind so many.
+fn is_page(view: &RowsView, before: u32, rows: &[ActView]) -> bool {
+    view.before == before && view.acts.as_slice() == rows
+}
+
+// Whether the rows behind so many are these, and the same to be shipped.
+fn are_rows(book: &Book, after: u32, before: u32, rows: &[ActView]) -> bool {
+    let told = match book.look(&Question::Rows { after }) {
+        Ok(
+            Answered {
+                at: 10,
+                reply: Reply::RowsAre(view),
+            },
+        ) => is_page(&view, before, rows),
+        _ => false,
+    };
+    let shipped = match book.look(&Question::Shipment { after }) {
+        Ok(
+            Answered {
+                at: 10,
+                reply: Reply::ShipmentIs(view),
+            },
+        ) => is_page(&view, before, rows),
+        _ => false,
+    };
+    told && shipped
+}
+
+// Whether the rows behind the first eight are told as they were accepted, and none behind all.
+fn are_last_rows(book: &Book, batch: Name) -> bool {
+    let row_of = |row, act| ActView {
+        row,
+        entry: Entry {
+            by: 0,
+            desk: 0,
+            request: 0,
+            act,
+            signal: None,
+        },
+        verdict: None,
+    };
+    let mode = Mode::Keep;
+    let rows = [
+        row_of(9, Act::EndRun { batch }),
+        row_of(
+            10,
+            Act::Draw {
+                batch,
+                mode,
+                word: 0,
+            },
+        ),
+    ];
+    are_rows(book, 8, 8, &rows) && are_rows(book, 10, 10, &[]) && are_rows(book, 11, 10, &[])
+}
+
 // Whether a question on the drawn batch is told this reply.
 fn is_told(book: &Book, question: &Question, reply: &Reply) -> bool {
     match book.look(question) {
@@ -191,7 +247,7 @@ fn is_right(book: &mut Book, batch: Name, product: Name) -> bool {
         return false;
     }
     draw_pair(book, batch);
-    is_sample(book, batch, &[7, 6]) && are_told(book, batch, product)
+    is_sample(book, batch, &[7, 6]) && are_told(book, batch, product) && are_last_rows(book, batch)
 }
 
 // Whether an act of the desk 101, at its request 1, is known to stand in the row 11.

@@ -6,6 +6,7 @@ pub mod PackLaws
 pub mod ClosedLaws
 pub mod FrozenLaws
 pub mod VerdictLaws
+mod PageLaws
 pub mod RangeLaws
 pub mod ReadingLaws
 pub mod BatchLaws

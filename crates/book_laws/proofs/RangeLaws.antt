@@ -32,7 +32,7 @@ use Rattle.book_words.specs.declared.act.Reading.{Reading}
 use Rattle.book_words.specs.declared.act.Want.{Want}
 use Rattle.book_words.specs.declared.act.Want.TheVariants as want
 use Rattle.book_words.specs.declared.act.Question.{Question}
-use Rattle.book_words.specs.declared.act.Question.TheVariants.{Sheet, Pack, Lane, Sample, Summary}
+use Rattle.book_words.specs.declared.act.Question.TheVariants.{Sheet, Pack, Lane, Sample, Summary, Rows, Shipment}
 use Rattle.book_words.specs.declared.views.Sheet as sheets
 use Rattle.book_words.specs.declared.views.PackView.{PackView}
 use Rattle.book_words.specs.declared.views.TheConstants.{MAX_DRAWN}
@@ -63,6 +63,7 @@ use Rattle.book_words.specs.Answers.{reply_behind, judged_or_done, desk_answer, 
 use Rattle.book_words.specs.Soundness.{IsAnswer, IsRefusal}
 use Rattle.book_words.specs.Ranges.{IsBetween, IsGrossInRange, IsSummaryInRange, IsSheetInRange, IsPackInRange, IsSampleInRange, IsReplyInRange, IsRefusalInRange, is_act_in_range, AllInRange}
 use Rattle.book_words.proofs.LegalLemmas.{legal_in_range, legal_few}
+use Rattle.book_laws.proofs.PageLaws.{page_within}
 
 -- ---- what holds of each of some things
 
@@ -934,6 +935,8 @@ question_within entries (Sample batch) legal = either (is_none (product_of entri
         (mapped_has IsSampleInRange IsReplyInRange (λ view. SampleIs view)
         (sample_view entries batch) (sample_within entries batch) (λ view h. h))
 question_within entries Summary legal = summary_within entries legal
+question_within entries (Rows after) legal = page_within after entries legal
+question_within entries (Shipment after) legal = page_within after entries legal
 
 outcome_within : (limit : ℕ) (entries : List Entry) (ask : Ask) (wanted : Want) → IsLegal entries
     → OutcomeInRange (want_answer limit entries ask wanted)

@@ -1,5 +1,5 @@
+pub use Rattle.book_verdicts.proofs.ClosingLemmas
 pub mod Chains
-pub mod ClosingLemmas
 pub mod SignalLemmas
 pub mod ReplyLemmas
 pub mod NewestRows

@@ -6,8 +6,6 @@ use Rattle.book_words.specs.declared.name.Name.{Name}
 use Rattle.book_words.specs.declared.act.Act.{Act}
 use Rattle.book_words.specs.declared.act.Act.TheVariants.{Weigh, Draw, DrawSecond}
 use Rattle.book_words.specs.declared.act.Entry.{Entry}
-use Rattle.book_words.specs.declared.act.Question.{Question}
-use Rattle.book_words.specs.declared.act.Question.TheVariants as questions
 use Rattle.book_words.specs.Acts.{product_of}
 use Rattle.book_words.specs.Population.{population}
 use Rattle.book_words.specs.Samples.{Sample, numbers_of, drawing_of, second_picks, sample_by, sample_of}
@@ -59,11 +57,6 @@ pub record IsSampleOf (entries : List Entry) (batch : Name) (sample : Sample) : 
   pub planned : IsPlanned sample
   pub first_rows : All (λ pack. pack < 2 ^ 32) sample.first
   pub second_rows : IfSome sample.second (λ picks. All (λ pack. pack < 2 ^ 32) picks)
-
--- whether a question is one for a sample
-abbrev pub is_for_sample : Question → Bool
-is_for_sample (questions.Sample batch) = true
-is_for_sample _ = false
 
 -- the packs that were drawn: those of the first sample, or else those of the second
 abbrev pub picks_in : Drawn → List ℕ

@@ -171,8 +171,7 @@ lacks_memory : (book : BookView) (by : ℕ) (ask : Ask) (w : Want) (new : Option
     → MayFindNoMemory w new
 lacks_memory book by ask (want.Act act) new same may =
     subst (λ (o : Option Entry). IsSome o) (sym same) may.0
-lacks_memory book by ask (want.Question (question.Sample batch)) new same may = tt
-lacks_memory book by ask (want.Question question) new same may = absurd may
+lacks_memory book by ask (want.Question question) new same may = may
 
 module _ {D : Type 0} (old new : CallerView D) (ask : Ask)
     (limit : limit_of new.store ≡ limit_of old.store) (by : new.by ≡ old.by) where

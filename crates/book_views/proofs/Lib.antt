@@ -1,2 +1,3 @@
 pub mod PileLemmas
 pub mod ViewLemmas
+mod RowLemmas

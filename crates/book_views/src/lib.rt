@@ -3,8 +3,10 @@
 #![tactic(auto)]
 
 mod questions;
+mod rows;
 mod tallies;
 mod views;
 
 pub use questions::look;
+pub use rows::view_row;
 pub use views::{summarize, view_pack};

@@ -1,7 +1,7 @@
 ghost use Rattle.std.specs.Prelude.{◌≡◌, false, Ok, IfOk, IsOk};
 ghost use Rattle.book_words.specs.Views as told;
-ghost use Rattle.book_verdicts.specs.Prepared.{is_for_sample};
 
+use crate::rows::view_rows;
 use crate::views::{summarize, view_lane, view_pack, view_sample, view_sheet};
 use book_verdicts::{NoMemory, State, lane_number};
 use book_words::{Name, Question, Refusal, Reply};
@@ -55,7 +55,29 @@ fn tell_sample(
     }
 }
 
-/// The answer to a question. Memory is taken for the packs of a sample alone.
+// The rows behind so many, a page of them.
+fn tell_rows(alloc: Global, state: &State, after: u32) -> Result<Result<Reply, Refusal>, NoMemory>
+    ensures { IfOk result (λ answer. answer
+        ≡ told.question_told state.now.entries (Question.Rows after)) }
+{
+    let view = view_rows(alloc, state, after)?;
+    Ok(Ok(Reply::RowsAre(view)))
+}
+
+// The same page, to be shipped.
+fn tell_shipment(
+    alloc: Global,
+    state: &State,
+    after: u32,
+) -> Result<Result<Reply, Refusal>, NoMemory>
+    ensures { IfOk result (λ answer. answer
+        ≡ told.question_told state.now.entries (Question.Shipment after)) }
+{
+    let view = view_rows(alloc, state, after)?;
+    Ok(Ok(Reply::ShipmentIs(view)))
+}
+
+/// The answer to a question. Memory is taken for the packs of a sample and for a page alone.
 pub fn look(
     alloc: Global,
     state: &State,
@@ -63,7 +85,7 @@ pub fn look(
 ) -> Result<Result<Reply, Refusal>, NoMemory>
     ensures told { IfOk result (λ answer. answer
         ≡ told.question_told state.now.entries question.now) }
-    ensures sure { is_for_sample question.now ≡ false → IsOk result }
+    ensures sure { told.takes_memory question.now ≡ false → IsOk result }
 {
     match question {
         Question::Sheet { batch } => Ok(tell_sheet(state, batch)),
@@ -71,5 +93,7 @@ pub fn look(
         Question::Lane { lane } => Ok(tell_lane(state, *lane)),
         Question::Sample { batch } => tell_sample(alloc, state, batch),
         Question::Summary => Ok(Ok(Reply::SummaryIs(summarize(state)))),
+        Question::Rows { after } => tell_rows(alloc, state, *after),
+        Question::Shipment { after } => tell_shipment(alloc, state, *after),
     }
 }

@@ -1,8 +1,7 @@
 -- What callers of the book see of it, and what an ask changes.
-use Rattle.std.specs.Prelude.{◌≡◌, ⊤, ℕ, ◌+◌, ◌-◌, ◌^◌, min, List, [], ◌++◌, length, Option, option_map, IsSome, Result, Ok, Err}
+use Rattle.std.specs.Prelude.{◌≡◌, true, ℕ, ◌+◌, ◌-◌, ◌^◌, min, List, [], ◌++◌, length, Option, option_map, IsSome, Result, Ok, Err}
 use Rattle.std.specs.List.{cons_option}
 use Rattle.book_words.specs.declared.act.Ask.{Ask}
-use Rattle.book_words.specs.declared.act.Question.TheVariants.{Sample}
 use Rattle.book_words.specs.declared.act.Want.{Want}
 use Rattle.book_words.specs.declared.act.Want.TheVariants as want
 use Rattle.book_words.specs.declared.act.Entry.{Entry}
@@ -11,6 +10,7 @@ use Rattle.book_words.specs.declared.reply.Refused.{Refused}
 use Rattle.book_words.specs.declared.caller.AskError.{AskError}
 use Rattle.book_words.specs.declared.caller.AskError.TheVariants as error
 use Rattle.book_words.specs.Desks.{Row}
+use Rattle.book_words.specs.Views.{takes_memory}
 use Rattle.book_words.specs.Answers.{answer, added, IsLegal}
 
 -- what is known of a caller: the list that it has seen, its own entries with their numbers, how
@@ -66,11 +66,10 @@ pub record HasNoAnswer (was now : Known) : Type 0 where
 abbrev pub entry_offered : Known → Ask → Option Entry
 entry_offered known ask = added known.limit known.seen known.by ask
 
--- what may find no memory: an act that would add an entry, and a question for a sample
+-- what may find no memory: an act that would add an entry, and a question that takes memory
 abbrev pub MayFindNoMemory : Want → Option Entry → Type 0
 MayFindNoMemory (want.Act act) new = IsSome new
-MayFindNoMemory (want.Question (Sample batch)) new = ⊤
-MayFindNoMemory (want.Question question) new = ⊥
+MayFindNoMemory (want.Question question) new = takes_memory question ≡ true
 
 -- what an answer says of what the caller has seen: the disk fails only where an entry would be
 -- added, so never at a question, a repeat or a refused act

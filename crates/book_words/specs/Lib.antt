@@ -14,6 +14,7 @@ pub mod Measures
 pub mod Verdicts
 pub mod Desks
 pub mod Refusals
+pub mod Pages
 pub mod Views
 pub mod Answers
 pub mod Balance

@@ -1,7 +1,7 @@
 -- The ranges of masses and days that the book tells, and the most packs, with which they can be
 -- printed.
 use Rattle.std.specs.Prelude.{ℤ, pos, neg_ℤ, ◌*ℤ◌, ◌≤ℤ◌, ◌+◌, ◌≤◌, Bool, true, ◌&&◌, List, length}
-use Rattle.std.specs.List.{AllPass}
+use Rattle.std.specs.List.{AllPass, AllByRecursion}
 use Rattle.annex_tables.specs.declared.TheConstants.{MIN_NOMINAL, MAX_NOMINAL}
 use Rattle.hall_limits.specs.declared.TheConstants.{MAX_GROSS, MAX_TARE, MAX_DAY, MAX_ROWS}
 use Rattle.pack_judge.specs.declared.types.Tally.{Tally}
@@ -12,12 +12,15 @@ use Rattle.book_words.specs.declared.views.Sheet.{Sheet}
 use Rattle.book_words.specs.declared.views.PackView.{PackView}
 use Rattle.book_words.specs.declared.views.SampleView.{SampleView}
 use Rattle.book_words.specs.declared.views.SummaryView.{SummaryView}
-use Rattle.book_words.specs.declared.views.TheConstants.{MAX_DRAWN}
+use Rattle.book_words.specs.declared.views.ActView.{ActView}
+use Rattle.book_words.specs.declared.views.RowsView.{RowsView}
+use Rattle.book_words.specs.declared.views.TheConstants.{MAX_DRAWN, MAX_PAGE}
 use Rattle.book_words.specs.declared.reply.Reply.{Reply}
-use Rattle.book_words.specs.declared.reply.Reply.TheVariants.{SheetIs, PackIs, SampleIs, SummaryIs}
+use Rattle.book_words.specs.declared.reply.Reply.TheVariants.{SheetIs, PackIs, SampleIs, SummaryIs, RowsAre, ShipmentIs}
 use Rattle.book_words.specs.declared.refusal.Refusal.{Refusal}
 use Rattle.book_words.specs.declared.refusal.Refusal.TheVariants.{DayBack, MeasuredAlready}
 use Rattle.book_words.specs.Refusals.{is_within}
+use Rattle.book_words.specs.Answers.{IsLawful}
 
 -- a whole number from one to another
 abbrev pub IsBetween : ℤ → ℤ → ℤ → Type 0
@@ -62,12 +65,24 @@ pub record IsPackInRange (view : PackView) : Type 0 where
 abbrev pub IsSampleInRange : SampleView → Type 0
 IsSampleInRange view = length view.first + length view.second ≤ MAX_DRAWN
 
+-- a row that is told is lawful behind some list
+abbrev pub IsLawfulSomewhere : ActView → Type 0
+IsLawfulSomewhere view = (before : List Entry) × IsLawful before view.entry
+
+-- so is each row of a page, which has no more than it may and lies within a book
+pub record IsPageInRange (view : RowsView) : Type 0 where
+  pub few : length view.acts ≤ MAX_PAGE
+  pub inside : view.before + length view.acts ≤ MAX_ROWS
+  pub lawful : AllByRecursion IsLawfulSomewhere view.acts
+
 -- what a reply tells is in range
 abbrev pub IsReplyInRange : Reply → Type 0
 IsReplyInRange (SheetIs sheet) = IsSheetInRange sheet
 IsReplyInRange (PackIs view) = IsPackInRange view
 IsReplyInRange (SampleIs view) = IsSampleInRange view
 IsReplyInRange (SummaryIs view) = IsSummaryInRange view
+IsReplyInRange (RowsAre view) = IsPageInRange view
+IsReplyInRange (ShipmentIs view) = IsPageInRange view
 IsReplyInRange _ = Unit {0}
 
 -- the day or the mass that a refusal tells is within its limits

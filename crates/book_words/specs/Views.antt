@@ -1,5 +1,5 @@
 -- What the book tells of a batch, a pack, a lane, a sample and the whole hall.
-use Rattle.std.specs.Prelude.{ℕ, ℤ, false, List, length, count_by, Option, Some, None, option_map, is_none, Result, Ok, Err, if◌then◌else◌}
+use Rattle.std.specs.Prelude.{ℕ, ℤ, Bool, true, false, List, length, count_by, Option, Some, None, option_map, is_none, Result, Ok, Err, if◌then◌else◌}
 use Rattle.std.specs.Option.{option_and_then, option_map_or}
 use Rattle.pack_judge.specs.declared.types.Signal.{Signal}
 use Rattle.pack_judge.specs.declared.types.Pile.TheVariants.{Passed, Rejected, Sampled, Voided}
@@ -10,7 +10,7 @@ use Rattle.book_words.specs.declared.act.Unit as units
 use Rattle.book_words.specs.declared.act.BatchState.{BatchState}
 use Rattle.book_words.specs.declared.act.BatchState.TheVariants.{Running, Ended, Drawn, Closed}
 use Rattle.book_words.specs.declared.act.Question.{Question}
-use Rattle.book_words.specs.declared.act.Question.TheVariants.{Sheet, Pack, Lane, Sample, Summary}
+use Rattle.book_words.specs.declared.act.Question.TheVariants.{Sheet, Pack, Lane, Sample, Summary, Rows, Shipment}
 use Rattle.book_words.specs.declared.views.TestView.{TestView}
 use Rattle.book_words.specs.declared.views.Verdict.{Verdict}
 use Rattle.book_words.specs.declared.views.Sheet as sheets
@@ -19,7 +19,7 @@ use Rattle.book_words.specs.declared.views.LaneView.{LaneView}
 use Rattle.book_words.specs.declared.views.SampleView.{SampleView}
 use Rattle.book_words.specs.declared.views.SummaryView.{SummaryView}
 use Rattle.book_words.specs.declared.reply.Reply.{Reply}
-use Rattle.book_words.specs.declared.reply.Reply.TheVariants.{SheetIs, PackIs, LaneIs, SampleIs, SummaryIs}
+use Rattle.book_words.specs.declared.reply.Reply.TheVariants.{SheetIs, PackIs, LaneIs, SampleIs, SummaryIs, RowsAre, ShipmentIs}
 use Rattle.book_words.specs.declared.refusal.Refusal.{Refusal}
 use Rattle.book_words.specs.declared.refusal.Refusal.TheVariants.{BatchUnknown, PackUnknown, NotDrawn}
 use Rattle.book_words.specs.Acts.{said, batch_opened, nominal_of, unit_of, product_of, density_of, state_of, same_state, lane_batch}
@@ -31,6 +31,7 @@ use Rattle.book_words.specs.Piles.{pile_of, in_pile, tally}
 use Rattle.book_words.specs.Measures.{measured_count}
 use Rattle.book_words.specs.Verdicts.{second_packs, first_defective, second_defective, verdict_of}
 use Rattle.book_words.specs.Refusals.{is_closed, lane_number}
+use Rattle.book_words.specs.Pages.{page_after}
 
 -- the test of a batch: how many packs of each sample were drawn, measured and found defective
 abbrev pub test_view : List Entry → Name → samples.Sample → TestView
@@ -185,3 +186,12 @@ question_told entries (Sample batch) =
     if is_none (product_of entries batch) then Err BatchUnknown else
     told_or NotDrawn (option_map (λ view. SampleIs view) (sample_view entries batch))
 question_told entries Summary = Ok (SummaryIs (summary entries))
+question_told entries (Rows after) = Ok (RowsAre (page_after after entries))
+question_told entries (Shipment after) = Ok (ShipmentIs (page_after after entries))
+
+-- whether a question takes memory: one for packs that were drawn, and one for a page
+abbrev pub takes_memory : Question → Bool
+takes_memory (Sample batch) = true
+takes_memory (Rows after) = true
+takes_memory (Shipment after) = true
+takes_memory _ = false

@@ -126,6 +126,10 @@ pub enum Question {
     Sample { batch: Name },
     /// The balance of the whole hall.
     Summary,
+    /// A page of the rows after the first so many, each as it was told.
+    Rows { after: u32 },
+    /// The same page as a shipment, for a book that follows.
+    Shipment { after: u32 },
 }
 
 /// What is asked: an act or a question.

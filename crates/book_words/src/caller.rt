@@ -29,7 +29,7 @@ pub trait Caller {
     /// Asks the book. The answer is right in what the caller has then seen, which begins with what
     /// it had seen before and is legal. Its own entries grow by that of a new act alone, and its
     /// faults by one at a `DiskFault` alone. `DiskFault` comes only where the ask would add an
-    /// entry, and `NoMemory` only there and at a question for a sample.
+    /// entry, and `NoMemory` only there and at a question for a sample or a page.
     fn ask(&mut self, ask: &Ask) -> Result<Answered, AskError>
         ensures asked { IsAsked (known self.old) (known self.new) ask.now result }
         ensures later { later self.old self.new (ask.now ∷ []) };

@@ -1,5 +1,5 @@
 use crate::refusal::Refusal;
-use crate::views::{LaneView, PackView, SampleView, Sheet, SummaryView, Verdict};
+use crate::views::{LaneView, PackView, RowsView, SampleView, Sheet, SummaryView, Verdict};
 use pack_judge::Signal;
 
 /// The answer to an ask that isn't refused.
@@ -21,6 +21,10 @@ pub enum Reply {
     SampleIs(SampleView),
     /// The balance of the whole hall.
     SummaryIs(SummaryView),
+    /// Some rows as they were told.
+    RowsAre(RowsView),
+    /// Some rows to be shipped.
+    ShipmentIs(RowsView),
 }
 
 /// A reply, and the place in the list that it speaks of: the new row, or the length of the list.

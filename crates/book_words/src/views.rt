@@ -1,11 +1,16 @@
-use crate::act::{BatchState, Unit};
+use crate::act::{BatchState, Entry, Unit};
 use crate::name::Name;
+use crate::page::ActList;
 use annex_tables::Mode;
 use pack_judge::{Class, Pile, Signal, Tally};
 use sample_draw::Picks;
 
 /// The most packs that are drawn from a batch, in both samples together: twice 80 (Annex II).
 pub const MAX_DRAWN: usize = 160;
+
+/// The most rows of a page. A response has room for their lines, and they are half of what a book
+/// is walked in; at 139 packs a second, two pages are asked each second.
+pub const MAX_PAGE: u32 = 128;
 
 /// Which parts of the test of a batch fail.
 #[derive(Clone, Copy, Debug, PartialEq, Eq)]
@@ -128,4 +133,21 @@ pub struct SummaryView {
     pub ended: u32,
     pub drawn: u32,
     pub closed: u32,
+}
+
+/// An accepted act as it is told.
+#[derive(Clone, Copy, PartialEq, Eq)]
+pub struct ActView {
+    /// The row of its entry.
+    pub row: u32,
+    pub entry: Entry,
+    /// The verdict that was told, where the act is the closing of a batch.
+    pub verdict: Option<Verdict>,
+}
+
+/// A page of the list: its rows as they were told, and how many rows stand before them.
+#[derive(PartialEq, Eq, Drop)]
+pub struct RowsView {
+    pub before: u32,
+    pub acts: ActList,
 }

@@ -1,5 +1,5 @@
 -- No answer of the book changes with who brought the entries.
-use Rattle.std.proofs.Common.{◌≡◌, ℕ, ◌+◌, ◌-◌, ◌<◌, List, [], ◌∷◌, ◌++◌, length, take, Option, Some, None, Result, Ok, Err, refl, sym, ap, subst, ◌∙◌}
+use Rattle.std.proofs.Common.{◌≡◌, ℕ, ◌+◌, ◌-◌, ◌<◌, false, List, [], ◌∷◌, ◌++◌, length, take, Option, Some, None, Result, Ok, Err, refl, sym, ap, subst, ◌∙◌}
 use Rattle.std.proofs.lemmas.List.{take-map}
 use Rattle.hall_limits.specs.declared.TheConstants.{MAX_ROWS}
 use Rattle.book_words.specs.declared.act.Act.{Act}
@@ -16,7 +16,7 @@ use Rattle.book_words.specs.Refusals.{refusal_by_rule, refusal_of}
 use Rattle.book_words.specs.Signals.{recorded_signal}
 use Rattle.book_words.specs.Views.{question_told}
 use Rattle.book_words.specs.Answers.{judged_or_done, reply_behind, accepted, told_again, refused_at, desk_answer, question_answer, want_answer, answer, ask_of, IsLawful}
-use Rattle.caller_laws.specs.Alike.{unnamed, all_unnamed, AreSameButBy, AreAnsweredAlike, AreLegalAlike}
+use Rattle.caller_laws.specs.Alike.{unnamed, all_unnamed, shows_callers, AreSameButBy, AreAnsweredAlike, AreLegalAlike}
 use Rattle.caller_laws.proofs.Readings.{length_same}
 use Rattle.caller_laws.proofs.Verdicts.{told_verdict_same}
 use Rattle.caller_laws.proofs.Signals.{signal_same}
@@ -64,25 +64,26 @@ told_same entries (Ok reply) = λ i. Ok (record { at = length_same entries i; re
 told_same entries (Err refusal) = ap Err (refused_same entries refusal)
 
 wanted_same : (limit : ℕ) (entries : List Entry) (ask : Ask) (wanted : Want)
+    → shows_callers wanted ≡ false
     → want_answer limit (all_unnamed entries) ask wanted ≡ want_answer limit entries ask wanted
-wanted_same limit entries ask (want.Act act) =
+wanted_same limit entries ask (want.Act act) hides =
     (λ i. desk_answer (all_unnamed entries) act (desk_number ask act)
     (repeated_same entries ask act i) (refusal_same entries limit ask act i))
     ∙ by_parts_same entries act (desk_number ask act) (repeated_row entries ask act)
     (refusal_of limit entries ask act)
-wanted_same limit entries ask (want.Question question) =
-    ap (question_answer (all_unnamed entries)) (question_same entries question)
+wanted_same limit entries ask (want.Question question) hides =
+    ap (question_answer (all_unnamed entries)) (question_same entries question hides)
     ∙ told_same entries (question_told entries question)
 
 -- a list is answered as the same list that a script would have brought
-pub answer_same : (limit : ℕ) (entries : List Entry) (ask : Ask)
+pub answer_same : (limit : ℕ) (entries : List Entry) (ask : Ask) → shows_callers ask.want ≡ false
     → answer limit (all_unnamed entries) ask ≡ answer limit entries ask
-answer_same limit entries ask = wanted_same limit entries ask ask.want
+answer_same limit entries ask hides = wanted_same limit entries ask ask.want hides
 
 pub answered_alike : AreAnsweredAlike
-answered_alike some other same limit ask =
-    sym (answer_same limit some ask) ∙ ap (λ es. answer limit es ask) same
-    ∙ answer_same limit other ask
+answered_alike some other same limit ask hides =
+    sym (answer_same limit some ask hides) ∙ ap (λ es. answer limit es ask) same
+    ∙ answer_same limit other ask hides
 
 -- ---- legal lists
 

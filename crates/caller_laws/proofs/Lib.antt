@@ -7,3 +7,4 @@ pub mod Desks
 pub mod Refusals
 pub mod Views
 pub mod Answers
+mod Pages

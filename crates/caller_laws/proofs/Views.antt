@@ -10,6 +10,7 @@ use Rattle.book_words.specs.declared.act.Reading.{Reading}
 use Rattle.book_words.specs.declared.act.Unit as units
 use Rattle.book_words.specs.declared.act.BatchState as states
 use Rattle.book_words.specs.declared.act.BatchState.TheVariants as state
+use Rattle.book_words.specs.declared.act.Want.TheVariants as want
 use Rattle.book_words.specs.declared.act.Question.{Question}
 use Rattle.book_words.specs.declared.act.Question.TheVariants as question
 use Rattle.book_words.specs.declared.reply.Reply.TheVariants.{SheetIs, PackIs, LaneIs, SampleIs, SummaryIs}
@@ -20,7 +21,7 @@ use Rattle.book_words.specs.Piles.{tally}
 use Rattle.book_words.specs.Verdicts.{second_packs}
 use Rattle.book_words.specs.Refusals.{is_closed, lane_number}
 use Rattle.book_words.specs.Views.{test_view, verdict_if_closed, sheet_record, sheet_of, pack_record, view_of_reading, pack_view, lane_view, sample_view, batches_in, summary, told_or, refused_or, question_told}
-use Rattle.caller_laws.specs.Alike.{all_unnamed}
+use Rattle.caller_laws.specs.Alike.{all_unnamed, shows_callers}
 use Rattle.caller_laws.proofs.Said.{said_same, last_same, lane_same, product_same, nominal_same, reading_net_same, class_same}
 use Rattle.caller_laws.proofs.Readings.{length_same, readings_same, reading_same, unsettled_same, of_batch_same, population_same, nonstandard_same, inadequate_same, net_sum_same}
 use Rattle.caller_laws.proofs.Samples.{sample_same, pile_same, in_pile_same, measured_count_same}
@@ -160,14 +161,17 @@ module _ (entries : List Entry) where
         closed = batches_same state.Closed i;
       }
 
-  pub question_same : (asked : Question) → question_told bare asked ≡ question_told entries asked
-  question_same (question.Sheet batch) =
+  pub question_same : (asked : Question) → shows_callers (want.Question asked) ≡ false
+      → question_told bare asked ≡ question_told entries asked
+  question_same (question.Sheet batch) hides =
       λ i. told_or BatchUnknown (option_map (λ sheet. SheetIs sheet) (sheet_same batch i))
-  question_same (question.Pack pack) =
+  question_same (question.Pack pack) hides =
       λ i. told_or PackUnknown (option_map (λ view. PackIs view) (pack_same pack i))
-  question_same (question.Lane lane) =
+  question_same (question.Lane lane) hides =
       λ i. refused_or (lane_number lane) (LaneIs (lane_view_same lane i))
-  question_same (question.Sample batch) =
+  question_same (question.Sample batch) hides =
       λ i. cond (is_none (product_same entries batch i)) (Err BatchUnknown)
       (told_or NotDrawn (option_map (λ view. SampleIs view) (sample_view_same batch i)))
-  question_same question.Summary = λ i. Ok (SummaryIs (summary_same i))
+  question_same question.Summary hides = λ i. Ok (SummaryIs (summary_same i))
+  question_same (question.Rows after) hides = absurd (cc)
+  question_same (question.Shipment after) hides = absurd (cc)

@@ -14,7 +14,7 @@ use Rattle.office_wire.specs.declared.types.Bad.TheVariants as bad
 use Rattle.office_responses.specs.declared.types.Status.{Status}
 use Rattle.office_responses.specs.declared.types.Status.TheVariants as status
 use Rattle.office_responses.specs.declared.types.Media.{Media}
-use Rattle.office_responses.specs.declared.types.Media.TheVariants.{Json, Plain}
+use Rattle.office_responses.specs.declared.types.Media.TheVariants.{Json, Plain, Octets}
 use Rattle.office_responses.specs.declared.types.Extra.{Extra}
 use Rattle.office_responses.specs.declared.types.Extra.TheVariants.{Nothing, BookRow, Allow}
 use Rattle.office_responses.specs.declared.types.Head.{Head}
@@ -37,6 +37,7 @@ status_text status.ServiceUnavailable = codes "503 Service Unavailable"
 abbrev pub media_text : Media → List ℕ
 media_text Json = codes "application/json"
 media_text Plain = codes "text/plain"
+media_text Octets = codes "application/octet-stream"
 
 -- a method that a route takes
 abbrev pub method_text : Bool → List ℕ
@@ -84,7 +85,8 @@ abbrev pub closed_body : ℕ → List ℕ → List ℕ
 closed_body row verdict =
     codes "{\"row\":" ++ decimal row ++ codes ",\"verdict\":\"" ++ verdict ++ codes "\"}"
 
--- an accepted act is told as JSON, the answer to a question as its text
+-- an accepted act is told as JSON, the answer to a question as its text, which of a shipment is
+-- bytes
 abbrev pub answer_body : Reply → List ℕ
 answer_body (reply.Done row) = done_body row
 answer_body (reply.Closed row verdict) = closed_body row (verdict_text verdict)
@@ -104,6 +106,7 @@ refusal_body refused =
 abbrev pub answer_media : Reply → Media
 answer_media (reply.Done row) = Json
 answer_media (reply.Closed row verdict) = Json
+answer_media (reply.ShipmentIs view) = Octets
 answer_media told = Plain
 
 -- the head of the response to an answer; where the disk failed or there was no memory, nothing is

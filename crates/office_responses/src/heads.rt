@@ -153,6 +153,7 @@ fn media_word(media: Media) -> &'static [u8]
     match media {
         Media::Json => b"application/json",
         Media::Plain => b"text/plain",
+        Media::Octets => b"application/octet-stream",
     }
 }
 

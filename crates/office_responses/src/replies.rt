@@ -8,8 +8,8 @@ use crate::types::{Extra, Head, Media, Status};
 use book_words::{Answered, AskError, Reply};
 use office_wire::Bad;
 
-/// No response has more bytes: a text of the book and a head.
-pub const REPLY_ROOM: usize = 4_096;
+/// No response has more bytes: a text of the book, of 32 768 bytes at most, and a head.
+pub const REPLY_ROOM: usize = 33_280;
 
 /// Appends the response to what the book answers a desk; `last` says that the connection ends
 /// behind it. It takes no memory.
@@ -72,6 +72,7 @@ fn answer_media(reply: &Reply) -> Media
 {
     match reply {
         Reply::Done { .. } | Reply::Closed { .. } => Media::Json,
+        Reply::ShipmentIs(_) => Media::Octets,
         _ => Media::Plain,
     }
 }

@@ -28,6 +28,8 @@ pub enum Media {
     Json,
     /// The text of the answer to a question.
     Plain,
+    /// The bytes of a shipment.
+    Octets,
 }
 
 /// The line of a head that not every response has.

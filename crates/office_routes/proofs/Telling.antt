@@ -12,7 +12,7 @@ use Rattle.matchit.proofs.OnLiterals.{matchit_on_literals}
 use Rattle.office_routes.specs.declared.spot.Spot.{Spot}
 use Rattle.office_routes.specs.declared.spot.Spot.TheVariants.{Sheet, Sample}
 use Rattle.office_routes.specs.Spots.{segments, find, found_at, found_part, found_detail, with_text}
-use Rattle.office_routes.specs.Rows.{office_rows, acts_row, summary_row, sheet_row, sample_row, pack_row, lane_row}
+use Rattle.office_routes.specs.Rows.{office_rows, rows_row, shipment_row, summary_row, sheet_row, sample_row, pack_row, lane_row}
 use Rattle.office_routes.proofs.Seeking.{plain_along, first_literal, first_single, first_differ, first_differ_more, AllDiffer, seek_byte, seek_empty, first_end}
 use Rattle.office_routes.proofs.Cuts.{Cut, cut, segments_one, segments_more, segments_some, slash_in, differs_end, differs_more, utf8_before, utf8_behind}
 use Rattle.office_routes.proofs.Taking.{alone, both, first_alone, first_alone_slash, first_both, first_both_empty, first_both_cut, IsHeadByte, walk_last, walk_before}
@@ -82,22 +82,28 @@ too_long word part q c =
 
 -- ---- one word
 
--- a word that is none of the five
+-- a word that is none of the six
 others_differ : (word : List ℕ) → has_slash word ≡ false → bytes_eq word (codes "acts") ≡ false
     → bytes_eq word (codes "summary") ≡ false → bytes_eq word (codes "batches") ≡ false
     → bytes_eq word (codes "packs") ≡ false → bytes_eq word (codes "lanes") ≡ false
-    → AllDiffer word behind
-others_differ word h a s b p l = (
-  differs_end word (codes "acts") (search arith) a,
+    → bytes_eq word (codes "rows") ≡ false → AllDiffer word behind
+others_differ word h a s b p l w = (
+  differs_more word (codes "acts") (param_token ∷ []) (search arith) h a,
   (
-    differs_more word (codes "batches") (param_token ∷ codes "/sample") (search arith) h b,
+    differs_end word (codes "acts") (search arith) a,
     (
-      differs_more word (codes "batches") (param_token ∷ []) (search arith) h b,
+      differs_more word (codes "batches") (param_token ∷ codes "/sample") (search arith) h b,
       (
-        differs_more word (codes "lanes") (param_token ∷ []) (search arith) h l,
+        differs_more word (codes "batches") (param_token ∷ []) (search arith) h b,
         (
-          differs_more word (codes "packs") (param_token ∷ []) (search arith) h p,
-          (differs_end word (codes "summary") (search arith) s, tt),
+          differs_more word (codes "lanes") (param_token ∷ []) (search arith) h l,
+          (
+            differs_more word (codes "packs") (param_token ∷ []) (search arith) h p,
+            (
+              differs_more word (codes "rows") (param_token ∷ []) (search arith) h w,
+              (differs_end word (codes "summary") (search arith) s, tt),
+            ),
+          ),
         ),
       ),
     ),
@@ -124,17 +130,21 @@ tells_lanes_alone : TellsAt (codes "/lanes")
 unfolding matchit_on_literals
 tells_lanes_alone = tt
 
--- what holds at each of five words, and at every other, holds at a word
+tells_rows_alone : TellsAt (codes "/rows")
+unfolding matchit_on_literals
+tells_rows_alone = tt
+
+-- what holds at each of six words, and at every other, holds at a word
 by_word : (P : List ℕ → Type 0) (word : List ℕ) → P (codes "acts") → P (codes "summary")
-    → P (codes "batches") → P (codes "packs") → P (codes "lanes")
+    → P (codes "batches") → P (codes "packs") → P (codes "lanes") → P (codes "rows")
     → (bytes_eq word (codes "acts") ≡ false → bytes_eq word (codes "summary") ≡ false
     → bytes_eq word (codes "batches") ≡ false → bytes_eq word (codes "packs") ≡ false
-    → bytes_eq word (codes "lanes") ≡ false → P word)
+    → bytes_eq word (codes "lanes") ≡ false → bytes_eq word (codes "rows") ≡ false → P word)
     → P word
-by_word P word acts summary batches packs lanes other =
+by_word P word acts summary batches packs lanes rows other =
     at (codes "acts") acts (λ a. at (codes "summary") summary
     (λ s. at (codes "batches") batches (λ b. at (codes "packs") packs
-    (λ p. at (codes "lanes") lanes (λ l. other a s b p l)))))
+    (λ p. at (codes "lanes") lanes (λ l. at (codes "rows") rows (λ w. other a s b p l w))))))
   where
     at : (w : List ℕ) → P w → (bytes_eq word w ≡ false → P word) → P word
     at w here else_here = by (bytes_eq word w) refl where
@@ -146,9 +156,9 @@ by_word P word acts summary batches packs lanes other =
 tells_word : (p : List ℕ) → has_slash p ≡ false → TellsAt (slash ∷ p)
 tells_word p h =
     by_word (λ w. TellsAt (slash ∷ w)) p tells_acts tells_summary tells_batches_alone
-    tells_packs_alone tells_lanes_alone
-    (λ a s b k l. tells_none (slash ∷ p)
-    (first_behind p ∙ first_differ p behind (others_differ p h a s b k l))
+    tells_packs_alone tells_lanes_alone tells_rows_alone
+    (λ a s b k l w. tells_none (slash ∷ p)
+    (first_behind p ∙ first_differ p behind (others_differ p h a s b k l w))
     (ap (λ q. found_at ([] ∷ q)) (segments_one p h) ∙ rw (a, s) refl))
 
 -- ---- a word, and a parameter
@@ -211,6 +221,24 @@ tells_lanes rest u r =
     (plain_along (codes "/lanes/") office_rows refl))
     refl (λ text. refl) (λ text more. refl)
     (λ q. walk_last (codes "/lanes/") (codes "/lanes/{number}") q (8, 14) (search arith)
+    (λ path at. refl)) rest u r
+
+tells_acts_more : (rest : List ℕ) → IsUtf8 rest → IsHeadByte rest → TellsAt (codes "/acts/" ++ rest)
+tells_acts_more rest u r =
+    tells_alone rows_row (codes "acts") (codes "number")
+    (λ q. first_literal (codes "/acts/") office_rows q
+    (plain_along (codes "/acts/") office_rows refl))
+    refl (λ text. refl) (λ text more. refl)
+    (λ q. walk_last (codes "/acts/") (codes "/acts/{number}") q (7, 13) (search arith)
+    (λ path at. refl)) rest u r
+
+tells_rows : (rest : List ℕ) → IsUtf8 rest → IsHeadByte rest → TellsAt (codes "/rows/" ++ rest)
+tells_rows rest u r =
+    tells_alone shipment_row (codes "rows") (codes "number")
+    (λ q. first_literal (codes "/rows/") office_rows q
+    (plain_along (codes "/rows/") office_rows refl))
+    refl (λ text. refl) (λ text more. refl)
+    (λ q. walk_last (codes "/rows/") (codes "/rows/{number}") q (7, 13) (search arith)
     (λ path at. refl)) rest u r
 
 -- ---- batches
@@ -307,11 +335,12 @@ tells_batches (b ∷ q) u r = by (cut (b ∷ q))
 -- ---- every path
 
 -- nothing is found behind a word that has no parameter
-none_behind : (word rest : List ℕ) → bytes_eq word (codes "batches") ≡ false
-    → bytes_eq word (codes "packs") ≡ false → bytes_eq word (codes "lanes") ≡ false
+none_behind : (word rest : List ℕ) → bytes_eq word (codes "acts") ≡ false
+    → bytes_eq word (codes "batches") ≡ false → bytes_eq word (codes "packs") ≡ false
+    → bytes_eq word (codes "lanes") ≡ false → bytes_eq word (codes "rows") ≡ false
     → found_at ([] ∷ word ∷ segments rest) ≡ None
-none_behind word rest b p l = elim (cut rest) [
-  | inl h ↦ rw (segments_one rest h, b, p, l) refl
+none_behind word rest a b p l w = elim (cut rest) [
+  | inl h ↦ rw (segments_one rest h, b, p, l, a, w) refl
   | inr c ↦
       let e : segments rest ≡ c.word ∷ segments c.rest =
       ap segments c.whole ∙ segments_more c.word c.rest c.free in elim (cut c.rest) [
@@ -320,32 +349,25 @@ none_behind word rest b p l = elim (cut rest) [
       ]
 ]
 
-tells_acts_more : (rest : List ℕ) → TellsAt (codes "/acts" ++ slash ∷ rest)
-tells_acts_more rest =
-    tells_none (codes "/acts" ++ slash ∷ rest)
-    (first_literal (codes "/acts") office_rows (slash ∷ rest)
-    (plain_along (codes "/acts") office_rows refl) ∙ first_single [] acts_row (slash ∷ rest) tt)
-    (none_behind (codes "acts") rest refl refl refl)
-
 tells_summary_more : (rest : List ℕ) → TellsAt (codes "/summary" ++ slash ∷ rest)
 tells_summary_more rest =
     tells_none (codes "/summary" ++ slash ∷ rest)
     (first_literal (codes "/summary") office_rows (slash ∷ rest)
     (plain_along (codes "/summary") office_rows refl)
     ∙ first_single [] summary_row (slash ∷ rest) tt)
-    (none_behind (codes "summary") rest refl refl refl)
+    (none_behind (codes "summary") rest refl refl refl refl refl)
 
 -- a word, and what is looked for behind it
 tells_more : (word rest : List ℕ) → has_slash word ≡ false → IsUtf8 rest → IsHeadByte rest
     → TellsAt (behind_word word rest)
 tells_more word rest h u r =
-    by_word (λ w. TellsAt (behind_word w rest)) word (tells_acts_more rest)
+    by_word (λ w. TellsAt (behind_word w rest)) word (tells_acts_more rest u r)
     (tells_summary_more rest) (tells_batches rest u r) (tells_packs rest u r)
-    (tells_lanes rest u r)
-    (λ a s b k l. tells_none (behind_word word rest)
+    (tells_lanes rest u r) (tells_rows rest u r)
+    (λ a s b k l w. tells_none (behind_word word rest)
     (first_behind (word ++ slash ∷ rest)
-    ∙ first_differ_more word behind rest (others_differ word h a s b k l))
-    (ap (λ q. found_at ([] ∷ q)) (segments_more word rest h) ∙ none_behind word rest b k l))
+    ∙ first_differ_more word behind rest (others_differ word h a s b k l w))
+    (ap (λ q. found_at ([] ∷ q)) (segments_more word rest h) ∙ none_behind word rest a b k l w))
 
 -- a path that doesn't begin with a slash
 tells_other : (b : ℕ) (p : List ℕ) → (b == slash) ≡ false → TellsAt (b ∷ p)

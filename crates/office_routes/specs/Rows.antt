@@ -6,12 +6,20 @@ use Rattle.matchit.specs.Route.{Scan}
 use Rattle.matchit.specs.Router.{RouteOf, nearest, route_from}
 use Rattle.matchit.specs.Rows.{RowsOf, param_token}
 use Rattle.office_routes.specs.declared.spot.Spot.{Spot}
-use Rattle.office_routes.specs.declared.spot.Spot.TheVariants.{Acts, Summary, Sheet, Sample, Pack, Lane}
+use Rattle.office_routes.specs.declared.spot.Spot.TheVariants.{Acts, Rows, Shipment, Summary, Sheet, Sample, Pack, Lane}
 
 -- a row: its pattern, with one token for a parameter; its text, and where in it the name stands
 
 abbrev pub acts_row : RouteOf Spot
 acts_row = record { pattern = codes "/acts"; text = codes "/acts"; names = []; value = Acts }
+
+abbrev pub rows_row : RouteOf Spot
+rows_row = record {
+  pattern = codes "/acts/" ++ param_token ∷ [];
+  text = codes "/acts/{number}";
+  names = (7, 13) ∷ [];
+  value = Rows;
+}
 
 abbrev pub summary_row : RouteOf Spot
 summary_row =
@@ -49,14 +57,24 @@ lane_row = record {
   value = Lane;
 }
 
--- the six routes, in the order of rows
+abbrev pub shipment_row : RouteOf Spot
+shipment_row = record {
+  pattern = codes "/rows/" ++ param_token ∷ [];
+  text = codes "/rows/{number}";
+  names = (7, 13) ∷ [];
+  value = Shipment;
+}
+
+-- the eight routes, in the order of rows
 abbrev pub office_rows : RowsOf (RouteOf Spot)
 office_rows =
-    (acts_row.pattern, acts_row)
+    (rows_row.pattern, rows_row)
+    ∷ (acts_row.pattern, acts_row)
     ∷ (sample_row.pattern, sample_row)
     ∷ (sheet_row.pattern, sheet_row)
     ∷ (lane_row.pattern, lane_row)
     ∷ (pack_row.pattern, pack_row)
+    ∷ (shipment_row.pattern, shipment_row)
     ∷ (summary_row.pattern, summary_row)
     ∷ []
 

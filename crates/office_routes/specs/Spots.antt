@@ -3,7 +3,7 @@ use Rattle.std.specs.Prelude.{ℕ, ◌==◌, ◌&&◌, List, [], ◌∷◌, if�
 use Rattle.std.specs.List.{slice_split}
 use Rattle.std.specs.Str.{bytes_eq}
 use Rattle.office_routes.specs.declared.spot.Spot.{Spot}
-use Rattle.office_routes.specs.declared.spot.Spot.TheVariants.{Acts, Summary, Sheet, Sample, Pack, Lane}
+use Rattle.office_routes.specs.declared.spot.Spot.TheVariants.{Acts, Rows, Shipment, Summary, Sheet, Sample, Pack, Lane}
 
 -- the segments of a path: what stands between its `/`
 abbrev pub segments : List ℕ → List (List ℕ)
@@ -21,13 +21,15 @@ found_word word =
     else (if bytes_eq word (codes "summary") then Some (Summary, [])
     else None)
 
--- `/batches/{name}`, `/packs/{number}` and `/lanes/{number}`
+-- `/batches/{name}`, `/packs/{number}`, `/lanes/{number}`, `/acts/{number}` and `/rows/{number}`
 abbrev pub found_part : List ℕ → List ℕ → Option (Spot × List ℕ)
 found_part word part =
     if bytes_eq word (codes "batches") then with_text Sheet part
     else (if bytes_eq word (codes "packs") then with_text Pack part
     else (if bytes_eq word (codes "lanes") then with_text Lane part
-    else None))
+    else (if bytes_eq word (codes "acts") then with_text Rows part
+    else (if bytes_eq word (codes "rows") then with_text Shipment part
+    else None))))
 
 -- `/batches/{name}/sample`
 abbrev pub found_detail : List ℕ → List ℕ → List ℕ → Option (Spot × List ℕ)

@@ -49,17 +49,19 @@ impl Routes {
     }
 }
 
-// The six routes, each with what is found there.
+// The eight routes, each with what is found there.
 fn router_of(alloc: Global) -> Result<Router<Spot>, AllocError>
     ensures { IfOk result (λ router. router ≡ office_rows) }
 {
     let mut router = Router::new(alloc);
     add(&mut router, "/acts", Spot::Acts)?;
+    add(&mut router, "/acts/{number}", Spot::Rows)?;
     add(&mut router, "/summary", Spot::Summary)?;
     add(&mut router, "/batches/{name}", Spot::Sheet)?;
     add(&mut router, "/batches/{name}/sample", Spot::Sample)?;
     add(&mut router, "/packs/{number}", Spot::Pack)?;
     add(&mut router, "/lanes/{number}", Spot::Lane)?;
+    add(&mut router, "/rows/{number}", Spot::Shipment)?;
     Ok(router)
 }
 

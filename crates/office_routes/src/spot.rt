@@ -3,6 +3,10 @@
 pub enum Spot {
     /// `/acts`: acts, which are posted.
     Acts,
+    /// `/acts/{number}`: the rows behind so many, a page of them.
+    Rows,
+    /// `/rows/{number}`: that page as a shipment.
+    Shipment,
     /// `/summary`: the summary of the book.
     Summary,
     /// `/batches/{name}`: the sheet of a batch.

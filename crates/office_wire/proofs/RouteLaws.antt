@@ -4,10 +4,10 @@ use Rattle.std.specs.Option.{option_and_then}
 use Rattle.std.specs.Str.{bytes_eq}
 use Rattle.book_words.specs.Names.{name_of}
 use Rattle.office_routes.specs.declared.spot.Spot.{Spot}
-use Rattle.office_routes.specs.declared.spot.Spot.TheVariants.{Acts, Summary, Sheet, Sample, Pack, Lane}
+use Rattle.office_routes.specs.declared.spot.Spot.TheVariants.{Acts, Rows, Shipment, Summary, Sheet, Sample, Pack, Lane}
 use Rattle.office_routes.specs.Spots.{with_text, found_word, found_part, found_detail, found_at, find}
 use Rattle.office_wire.specs.declared.types.Route.{Route}
-use Rattle.office_wire.specs.Routes.{word_route, part_route, detail_route, sheet_route, sample_route, pack_route, lane_route, segments, segments_route}
+use Rattle.office_wire.specs.Routes.{word_route, part_route, detail_route, sheet_route, sample_route, pack_route, lane_route, rows_route, shipment_route, segments, segments_route}
 use Rattle.office_wire.specs.Spots.{spot_route}
 
 abbrev pub found_route : Option (Spot × List ℕ) → Option Route
@@ -41,19 +41,25 @@ word_is word = by (bytes_eq word (codes "acts")) (bytes_eq word (codes "summary"
 part_is : (word part : List ℕ) → found_route (found_part word part) ≡ part_route word part
 part_is word part =
     by (bytes_eq word (codes "batches")) (bytes_eq word (codes "packs"))
-    (bytes_eq word (codes "lanes"))
+    (bytes_eq word (codes "lanes")) (bytes_eq word (codes "acts")) (bytes_eq word (codes "rows"))
   where
-    by : (batches packs lanes : Bool)
+    by : (batches packs lanes acts rows : Bool)
         → found_route (if batches then with_text Sheet part
         else (if packs then with_text Pack part
-        else (if lanes then with_text Lane part else None)))
+        else (if lanes then with_text Lane part
+        else (if acts then with_text Rows part
+        else (if rows then with_text Shipment part else None)))))
         ≡ (if batches then sheet_route part
         else (if packs then pack_route part
-        else (if lanes then lane_route part else None)))
-    by true packs lanes = with_text_is Sheet no_sheet part
-    by false true lanes = with_text_is Pack refl part
-    by false false true = with_text_is Lane refl part
-    by false false false = refl
+        else (if lanes then lane_route part
+        else (if acts then rows_route part
+        else (if rows then shipment_route part else None)))))
+    by true packs lanes acts rows = with_text_is Sheet no_sheet part
+    by false true lanes acts rows = with_text_is Pack refl part
+    by false false true acts rows = with_text_is Lane refl part
+    by false false false true rows = with_text_is Rows refl part
+    by false false false false true = with_text_is Shipment refl part
+    by false false false false false = refl
 
 detail_is : (word part detail : List ℕ)
     → found_route (found_detail word part detail) ≡ detail_route word part detail

@@ -3,7 +3,7 @@ use Rattle.std.specs.Prelude.{ℕ, ◌^◌, ◌-◌, ◌==◌, ◌&&◌, List, [
 use Rattle.std.specs.List.{before_first, slice_split}
 use Rattle.std.specs.Str.{bytes_eq}
 use Rattle.hall_units.specs.Number.{bounded_number}
-use Rattle.book_words.specs.declared.act.Question.TheVariants.{Sheet, Pack, Lane, Sample, Summary}
+use Rattle.book_words.specs.declared.act.Question.TheVariants.{Sheet, Pack, Lane, Sample, Summary, Rows, Shipment}
 use Rattle.book_words.specs.Names.{name_of}
 use Rattle.office_wire.specs.declared.types.Route.{Route}
 use Rattle.office_wire.specs.declared.types.Route.TheVariants.{Acts, Question}
@@ -46,13 +46,27 @@ abbrev pub lane_route : List ℕ → Option Route
 lane_route number =
     option_map (λ lane. Question (Lane lane)) (bounded_number 20 (2 ^ 8 - 1) number)
 
+-- a number of rows: 1 to 20 digits, and no more than 32 bits hold
+abbrev pub row_count : List ℕ → Option ℕ
+row_count number = bounded_number 20 (2 ^ 32 - 1) number
+
+-- `/acts/{number}`
+abbrev pub rows_route : List ℕ → Option Route
+rows_route number = option_map (λ after. Question (Rows after)) (row_count number)
+
+-- `/rows/{number}`
+abbrev pub shipment_route : List ℕ → Option Route
+shipment_route number = option_map (λ after. Question (Shipment after)) (row_count number)
+
 -- a word, and what is looked for
 abbrev pub part_route : List ℕ → List ℕ → Option Route
 part_route word part =
     if bytes_eq word (codes "batches") then sheet_route part
     else (if bytes_eq word (codes "packs") then pack_route part
     else (if bytes_eq word (codes "lanes") then lane_route part
-    else None))
+    else (if bytes_eq word (codes "acts") then rows_route part
+    else (if bytes_eq word (codes "rows") then shipment_route part
+    else None))))
 
 -- a word, what is looked for, and what of it
 abbrev pub detail_route : List ℕ → List ℕ → List ℕ → Option Route

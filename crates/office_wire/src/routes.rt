@@ -1,5 +1,5 @@
 ghost use Rattle.std.specs.Prelude.{◌≡◌};
-ghost use Rattle.office_wire.specs.Routes.{path_of, sheet_route, sample_route, pack_route, lane_route, route_of};
+ghost use Rattle.office_wire.specs.Routes.{path_of, sheet_route, sample_route, pack_route, lane_route, row_count, rows_route, shipment_route, route_of};
 ghost use Rattle.office_wire.specs.Spots.{spot_route};
 
 use crate::types::Route;
@@ -39,6 +39,8 @@ fn spot_route(spot: Spot, text: &[u8]) -> Option<Route>
         Spot::Sample => sample_route(text),
         Spot::Pack => pack_route(text),
         Spot::Lane => lane_route(text),
+        Spot::Rows => rows_route(text),
+        Spot::Shipment => shipment_route(text),
     }
 }
 
@@ -72,4 +74,28 @@ fn lane_route(number: &[u8]) -> Option<Route>
 {
     let lane = read_bounded(NUMBER_DIGITS, u64::from(u8::MAX), number)?;
     Some(Route::Question(Question::Lane { lane: lane as u8 }))
+}
+
+// A number of rows.
+fn row_count(number: &[u8]) -> Option<u32>
+    ensures { result ≡ row_count number.now }
+{
+    let after = read_bounded(NUMBER_DIGITS, u64::from(u32::MAX), number)?;
+    Some(after as u32)
+}
+
+// `/acts/{number}`.
+fn rows_route(number: &[u8]) -> Option<Route>
+    ensures { result ≡ rows_route number.now }
+{
+    let after = row_count(number)?;
+    Some(Route::Question(Question::Rows { after }))
+}
+
+// `/rows/{number}`.
+fn shipment_route(number: &[u8]) -> Option<Route>
+    ensures { result ≡ shipment_route number.now }
+{
+    let after = row_count(number)?;
+    Some(Route::Question(Question::Shipment { after }))
 }

@@ -204,7 +204,7 @@ fn wrong_last(routes: &Routes, alloc: Global) -> Option<&'static [u8]> {
 
 // The first request that isn't told as its question.
 fn wrong_question(routes: &Routes, alloc: Global, batch: Name) -> Option<&'static [u8]> {
-    let rows: [(&'static [u8], Question); 6] = [
+    let rows: [(&'static [u8], Question); 8] = [
         (
             b"GET /batches/A HTTP/1.1\r\nHost: 127.0.0.1:8080\r\nUser-Agent: curl/8.5.0\r\n\
 Accept: */*\r\n\r\n",
@@ -231,6 +231,16 @@ Accept: */*\r\n\r\n",
         (
             b"GET /lanes/255?day=1/2 HTTP/1.1\r\n\r\n",
             Question::Lane { lane: 255 },
+        ),
+        (
+            b"GET /acts/4294967295 HTTP/1.1\r\n\r\n",
+            Question::Rows {
+                after: 4_294_967_295,
+            },
+        ),
+        (
+            b"GET /rows/0 HTTP/1.1\r\n\r\n",
+            Question::Shipment { after: 0 },
         ),
     ];
     for (bytes, asked) in &rows {

@@ -4,13 +4,18 @@ use std::alloc::Global;
 use std::test::Fail;
 
 // Targets at which nothing is found.
-const UNKNOWN: [&[u8]; 22] = [
+const UNKNOWN: [&[u8]; 27] = [
     b"*",
     b"?/summary",
     b"//",
     b"//acts",
     b"/acts/",
     b"/acts/acts",
+    b"/acts/1/",
+    b"/acts/4294967296",
+    b"/rows",
+    b"/rows/",
+    b"/rows/-1",
     b"/Acts",
     b"/act",
     b"/%61cts",
@@ -113,7 +118,7 @@ fn wrong_method(routes: &Routes, alloc: Global) -> Option<&'static [u8]> {
 // Whether a method is taken neither for acts nor for a question.
 fn is_not_taken(routes: &Routes, alloc: Global, method: &[u8]) -> bool {
     let act = asked(routes, alloc, method, b"/acts");
-    let question = asked(routes, alloc, method, b"/summary");
+    let question = asked(routes, alloc, method, b"/acts/1");
     act == Some(OfficeAsk::Bad(Bad::Method { post: true }))
         && question == Some(OfficeAsk::Bad(Bad::Method { post: false }))
 }

@@ -11,8 +11,8 @@ use crate::tables::error_of;
 use crate::taken::NoMemory;
 use crate::verdicts::{defectives, verdict_of};
 use book_words::{
-    Act, BatchState, Entry, LaneView, Name, PackView, Question, Refusal, Reply, SampleView, Sheet,
-    SummaryView, TestView, Verdict,
+    Act, ActList, ActView, BatchState, Entry, LaneView, MAX_PAGE, Name, PackView, Question,
+    Refusal, Reply, RowsView, SampleView, Sheet, SummaryView, TestView, Verdict,
 };
 use pack_judge::{Pile, Tally};
 use sample_draw::Picks;
@@ -244,6 +244,40 @@ pub fn summary(alloc: Global, entries: &[Entry]) -> Result<SummaryView, NoMemory
     })
 }
 
+// The verdict that the entry at the end of a list was told, where that closes a batch.
+fn verdict_of_last(alloc: Global, until: &[Entry]) -> Result<Option<Verdict>, NoMemory> {
+    match until.last() {
+        Some(
+            Entry {
+                act: Act::Close { batch },
+                ..
+            },
+        ) => Ok(Some(verdict_of(alloc, until, *batch)?)),
+        _ => Ok(None),
+    }
+}
+
+// The page behind so many rows.
+fn rows_view(alloc: Global, entries: &[Entry], after: u32) -> Result<RowsView, NoMemory> {
+    let before = after.min(count_of(entries.len()));
+    let mut acts = Vec::new(alloc);
+    for (place, entry) in entries.iter().enumerate() {
+        let row = count_of(place).saturating_add(1);
+        if row > before && row - before <= MAX_PAGE {
+            let until = entries.get(..row as usize).unwrap_or(entries);
+            acts.push(ActView {
+                row,
+                entry: *entry,
+                verdict: verdict_of_last(alloc, until)?,
+            })?;
+        }
+    }
+    Ok(RowsView {
+        before,
+        acts: ActList::from(acts),
+    })
+}
+
 /// What a question is told.
 pub fn tell(alloc: Global, entries: &[Entry], question: &Question) -> Result<Told, NoMemory> {
     match *question {
@@ -258,5 +292,9 @@ pub fn tell(alloc: Global, entries: &[Entry], question: &Question) -> Result<Tol
         Question::Lane { lane } => Ok(tell_lane(entries, lane)),
         Question::Sample { batch } => tell_sample(alloc, entries, batch),
         Question::Summary => Ok(Ok(Reply::SummaryIs(summary(alloc, entries)?))),
+        Question::Rows { after } => Ok(Ok(Reply::RowsAre(rows_view(alloc, entries, after)?))),
+        Question::Shipment { after } => {
+            Ok(Ok(Reply::ShipmentIs(rows_view(alloc, entries, after)?)))
+        }
     }
 }

@@ -268,7 +268,7 @@ impl Draws {
     /// Any question, which nobody's desk asks.
     pub fn any_question(&mut self, entries: &[Entry]) -> Ask {
         let batch = self.batch();
-        let question = match self.below(5) {
+        let question = match self.below(7) {
             0 => Question::Sheet { batch },
             1 => Question::Pack {
                 pack: self.row(entries),
@@ -277,7 +277,13 @@ impl Draws {
                 lane: LANES[self.below(10)],
             },
             3 => Question::Sample { batch },
-            _ => Question::Summary,
+            4 => Question::Summary,
+            5 => Question::Rows {
+                after: self.row(entries),
+            },
+            _ => Question::Shipment {
+                after: self.row(entries),
+            },
         };
         Ask {
             desk: 0,

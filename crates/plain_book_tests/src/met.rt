@@ -14,22 +14,22 @@ pub const VERDICTS: usize = 40;
 /// Of the withheld: contents, mean, average, allowance, inadequate.
 const FAILS: usize = 43;
 
-/// Answers to questions: sheet, pack, lane, sample, summary.
+/// Answers to questions: sheet, pack, lane, sample, summary, rows, shipment.
 const VIEWS: usize = 48;
 
 /// Repeats: of a closing, and of another act.
-const REPEATS: usize = 53;
+const REPEATS: usize = 55;
 
 /// Draws that were accepted: of packs that are kept, that are destroyed, and second ones.
-pub const DRAWS: usize = 55;
+pub const DRAWS: usize = 57;
 
 // A place behind all kinds, and so the number of places.
-const NOWHERE: usize = 58;
+const NOWHERE: usize = 60;
 
 /// How often each kind of answer came.
 #[derive(Clone, Copy)]
 pub struct Met {
-    pub counts: [u32; 58],
+    pub counts: [u32; 60],
 }
 
 fn place_of_signal(signal: &Signal) -> usize {
@@ -45,8 +45,8 @@ fn place_of_signal(signal: &Signal) -> usize {
 fn place_of_draw(act: &Act) -> usize {
     match act {
         Act::Draw { mode, .. } if *mode == Mode::Keep => DRAWS,
-        Act::Draw { .. } => 56,
-        Act::DrawSecond { .. } => 57,
+        Act::Draw { .. } => 58,
+        Act::DrawSecond { .. } => 59,
         _ => NOWHERE,
     }
 }
@@ -58,6 +58,8 @@ fn place_of_view(reply: &Reply) -> usize {
         Reply::LaneIs(_) => 50,
         Reply::SampleIs(_) => 51,
         Reply::SummaryIs(_) => 52,
+        Reply::RowsAre(_) => 53,
+        Reply::ShipmentIs(_) => 54,
         _ => NOWHERE,
     }
 }
@@ -65,12 +67,12 @@ fn place_of_view(reply: &Reply) -> usize {
 impl Met {
     /// Nothing was answered yet.
     pub fn nothing() -> Met {
-        Met { counts: [0; 58] }
+        Met { counts: [0; 60] }
     }
 
     // Counts one at a place; behind the end nothing.
     fn count(&mut self, place: usize) {
-        if place < 58 {
+        if place < 60 {
             self.counts[place] = self.counts[place].saturating_add(1);
         }
     }
@@ -113,7 +115,7 @@ impl Met {
             Want::Question(_) => self.count(place_of_view(&answered.reply)),
             Want::Act(_) if answered.at == rows => match answered.reply {
                 Reply::Closed { .. } => self.count(REPEATS),
-                _ => self.count(54),
+                _ => self.count(56),
             },
             Want::Act(act) => self.note_new(act, &answered.reply),
         }
@@ -126,7 +128,7 @@ impl Met {
 
     /// The place of a kind that didn't come.
     pub fn missing(&self) -> Option<usize> {
-        for place in 1..58usize {
+        for place in 1..60usize {
             if self.counts[place] == 0 {
                 return Some(place);
             }

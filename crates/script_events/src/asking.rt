@@ -119,6 +119,7 @@ fn want_at(book: &Book, verb: Verb) -> Want
         Verb::Lane { lane } => Want::Question(Question::Lane { lane }),
         Verb::Sample { batch } => Want::Question(Question::Sample { batch }),
         Verb::Summary => Want::Question(Question::Summary),
+        Verb::Acts { after } => Want::Question(Question::Rows { after }),
     }
 }
 

@@ -98,6 +98,10 @@ pub enum Verb {
     },
     /// `summary`
     Summary,
+    /// `acts ROW`
+    Acts {
+        after: u32,
+    },
 }
 
 /// What a script may have, beside acts.

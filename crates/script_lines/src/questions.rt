@@ -1,7 +1,7 @@
 ghost use Rattle.std.specs.Prelude.{◌≡◌};
 ghost use Rattle.script_lines.specs.Words.{words_of};
 ghost use Rattle.script_lines.specs.Script.{question_by, sheet_line, pack_line, lane_line};
-ghost use Rattle.script_lines.specs.Script.{sample_line, summary_line};
+ghost use Rattle.script_lines.specs.Script.{sample_line, summary_line, acts_line};
 
 use crate::command::Verb;
 use crate::fields::{read_lane, read_pack};
@@ -22,6 +22,8 @@ pub fn read_question(word: &[u8], rest: &[u8]) -> Option<Verb>
         sample(rest)
     } else if word == b"summary".as_slice() {
         summary(rest)
+    } else if word == b"acts".as_slice() {
+        acts(rest)
     } else {
         None
     }
@@ -71,4 +73,13 @@ fn summary(rest: &[u8]) -> Option<Verb>
         return None;
     }
     Some(Verb::Summary)
+}
+
+// `acts ROW`: a number of as many bits as that of a pack.
+fn acts(rest: &[u8]) -> Option<Verb>
+    ensures { result ≡ acts_line (words_of rest.now) }
+{
+    let number = only_word(rest)?;
+    let after = read_pack(number)?;
+    Some(Verb::Acts { after })
 }

@@ -19,6 +19,7 @@ works 1 b1
 @101 1 lane 1
 @101 1 sample b1
 @101 1 summary
+@101 1 acts 1
 draw b1 Keep 7
 draw b1 7 keep
 draw b1 keeps 7
@@ -165,6 +166,11 @@ lane 1 2
 sample b1 b2
 summary now
 summary # now
+acts
+acts b1
+acts 1 2
+acts -1
+acts 4294967296
 @101 1 1 day 2025-03-03
 @101 1 @101 1 day 2025-03-03";
 

@@ -9,7 +9,7 @@ type Row = (&'static [u8], u16, u32, Verb);
 
 const DAY_SET: Verb = Verb::Day { day: DAY };
 
-const NAMELESS: [Row; 28] = [
+const NAMELESS: [Row; 29] = [
     (b"day 2025-03-03", 0, 0, DAY_SET),
     (b" \tday\t \t2025-03-03\t ", 0, 0, DAY_SET),
     (
@@ -151,6 +151,14 @@ const NAMELESS: [Row; 28] = [
     (b"pack 4294967295", 0, 0, Verb::Pack { pack: u32::MAX }),
     (b"lane 255", 0, 0, Verb::Lane { lane: 255 }),
     (b"summary", 0, 0, Verb::Summary),
+    (
+        b"acts 4294967295",
+        0,
+        0,
+        Verb::Acts {
+            after: 4_294_967_295,
+        },
+    ),
     (b"\t\tsummary  ", 0, 0, Verb::Summary),
     (b"@101 2 day 2025-03-03", 101, 2, DAY_SET),
     (b"@2 101 day 2025-03-03", 2, 101, DAY_SET),

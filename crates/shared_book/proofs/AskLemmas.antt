@@ -314,8 +314,7 @@ lacks_memory : (book : BookView) (by : ℕ) (ask : Ask) (w : Want) (offered : Op
     → MayFindNoMemory w offered
 lacks_memory book by ask (want.Act act) offered same may =
     subst (λ (o : Option Entry). IsSome o) same may.0
-lacks_memory book by ask (want.Question (question.Sample batch)) offered same may = tt
-lacks_memory book by ask (want.Question question) offered same may = absurd may
+lacks_memory book by ask (want.Question question) offered same may = may
 
 module _ {N : Type 0} (s : session.Ghosts N) (book : BookView) (seat : BookState Entry)
     (pass : PassState Entry) (ask : Ask) (limit : book.limit ≡ s.limit)

@@ -6,7 +6,7 @@ use Rattle.report_run.specs.Reports.{text_if_there}
 use Rattle.report_run.proofs.Pieces.{begins, goes_on, cuts}
 use Rattle.act_lines.specs.ActLines.{act_text}
 use Rattle.act_lines.specs.ActViews.{acts_text}
-use Rattle.acts_run.specs.Rows.{view_at}
+use Rattle.book_views.specs.RowViews.{row_view}
 use Rattle.acts_run.proofs.Walks.{next_act, no_acts}
 use Rattle.acts_run.proofs.print.print_rows.Goals as goal
 
@@ -26,7 +26,7 @@ loop-before-preserved g c =
       printing = goes_on (output_at g.K.Sink c.args.output.now) (output_at g.K.Sink here.output)
           (output_at g.K.Sink c.print_row.new.output) c.args.text.now.items here.text.items
           c.print_row.new.text.items (acts_text here.before entries)
-          (text_if_there act_text (view_at entries (here.before + 1)))
+          (text_if_there act_text (row_view entries (here.before + 1)))
           (acts_text (here.before + 1) entries) (acts_text c.args.after entries)
           (next_act entries here.before inside) here.invariant.printing
           c.in_ok-print_row.ensures.printed;

@@ -50,10 +50,11 @@ add-requires-6 c =
     )
     refl
 
-pub returns : goal.returns
+pub add-requires-7 : goal.add-requires-7
 unfolding matchit_on_literals
-returns c =
+add-requires-7 c =
     rw (
+      c.in_ok-add-6.ensures,
       c.in_ok-add-5.ensures,
       c.in_ok-add-4.ensures,
       c.in_ok-add-3.ensures,
@@ -61,4 +62,34 @@ returns c =
       c.in_ok-add.ensures,
       c.new-router.ensures,
     )
-    at c.in_ok-add-6.ensures
+    refl
+
+pub add-requires-8 : goal.add-requires-8
+unfolding matchit_on_literals
+add-requires-8 c =
+    rw (
+      c.in_ok-add-7.ensures,
+      c.in_ok-add-6.ensures,
+      c.in_ok-add-5.ensures,
+      c.in_ok-add-4.ensures,
+      c.in_ok-add-3.ensures,
+      c.in_ok-add-2.ensures,
+      c.in_ok-add.ensures,
+      c.new-router.ensures,
+    )
+    refl
+
+pub returns : goal.returns
+unfolding matchit_on_literals
+returns c =
+    rw (
+      c.in_ok-add-7.ensures,
+      c.in_ok-add-6.ensures,
+      c.in_ok-add-5.ensures,
+      c.in_ok-add-4.ensures,
+      c.in_ok-add-3.ensures,
+      c.in_ok-add-2.ensures,
+      c.in_ok-add.ensures,
+      c.new-router.ensures,
+    )
+    at c.in_ok-add-8.ensures

@@ -1,6 +1,6 @@
 use Rattle.std.proofs.Common.{sym}
-use Rattle.acts_run.proofs.Told.{in_range}
-use Rattle.acts_run.proofs.rows.view_at.Goals as goal
+use Rattle.book_views.proofs.RowLemmas.{in_range}
+use Rattle.book_views.proofs.rows.view_row.Goals as goal
 
 pub returns-clause-range : goal.returns-clause-range
 returns-clause-range c =

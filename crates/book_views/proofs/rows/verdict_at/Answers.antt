@@ -1,8 +1,7 @@
 use Rattle.std.proofs.Common.{Some, ◌-◌, take, refl, sym, ap, ◌∙◌}
-use Rattle.act_lines.specs.ActViews.{verdict_behind}
-use Rattle.book_rules.proofs.ReplyLemmas.{held_known}
-use Rattle.acts_run.proofs.Told.{told_then}
-use Rattle.acts_run.proofs.rows.verdict_at.Goals as goal
+use Rattle.book_words.specs.Pages.{verdict_behind}
+use Rattle.book_verdicts.proofs.HeldClosings.{parts_at, held_known, verdict_then}
+use Rattle.book_views.proofs.rows.verdict_at.Goals as goal
 
 pub verdict_of-requires : goal.verdict_of-requires
 verdict_of-requires c = record {
@@ -13,8 +12,10 @@ verdict_of-requires c = record {
 
 pub returns-in-Close : goal.returns-in-Close
 returns-in-Close c =
-    let before = take (c.args.number - 1) c.args.state.now.entries in
+    let entries = c.args.state.now.entries in
+    let before = take (c.args.number - 1) entries in
     ap Some (c.verdict_of.ensures
-    ∙ told_then c.args.state.now.entries c.args.number c.args.entry.now c.in-Close.batch
-    c.len-rows.ensures.legal c.requires c.in-Close.is)
+    ∙ verdict_then entries c.args.number c.args.entry.now c.in-Close.batch
+    c.len-rows.ensures.legal (parts_at entries c.args.number c.args.entry.now c.requires)
+    c.in-Close.is)
     ∙ ap (verdict_behind before) (sym c.in-Close.is)

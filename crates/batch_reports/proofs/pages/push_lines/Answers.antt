@@ -1,0 +1,47 @@
+use Rattle.std.proofs.Common.{rules, ◌≡◌, [], ◌∷◌, ◌++◌, List, ℕ, length, sym, ap, ◌∙◌, subst, arith, append_assoc, append-nil}
+use Rattle.std.specs.List.{AllByRecursion}
+use Rattle.book_words.specs.declared.views.ActView.{ActView}
+use Rattle.book_words.specs.Ranges.{IsLawfulSomewhere}
+use Rattle.act_lines.specs.ActLines.{act_text}
+use Rattle.batch_reports.specs.Texts.{lines_of}
+use Rattle.batch_reports.proofs.pages.push_lines.Goals as goal
+
+pub push_line-requires-clause-room : goal.push_line-requires-clause-room
+push_line-requires-clause-room c =
+    let here = c.loop-view in
+    let parts : here.rest.now ≡ c.in-Some.view.now ∷ c.in-Some.behind.now = search rules in
+    omega (arith, here.invariant.long, here.invariant.capacity, c.requires.room, ap length parts)
+
+pub push_line-requires-clause-lawful : goal.push_line-requires-clause-lawful
+push_line-requires-clause-lawful c =
+    let here = c.loop-view in
+    let parts : here.rest.now ≡ c.in-Some.view.now ∷ c.in-Some.behind.now = search rules in
+    (subst (AllByRecursion IsLawfulSomewhere) parts here.invariant.lawful).0
+
+pub loop-view-preserved : goal.loop-view-preserved
+loop-view-preserved c =
+    let here = c.loop-view in
+    let view = c.in-Some.view.now in
+    let behind = c.in-Some.behind.now in
+    let parts : here.rest.now ≡ view ∷ behind = search rules in
+    record {
+      items = ap (λ (l : List ℕ). l ++ lines_of behind) c.push_line.ensures.items
+          ∙ append_assoc here.to.items (act_text view) (lines_of behind)
+          ∙ ap (λ (vs : List ActView). here.to.items ++ lines_of vs) (sym parts)
+          ∙ here.invariant.items;
+      lawful = (subst (AllByRecursion IsLawfulSomewhere) parts here.invariant.lawful).1;
+      long = omega (arith, here.invariant.long, c.push_line.ensures.longest, ap length parts);
+      capacity = c.push_line.ensures.capacity ∙ here.invariant.capacity;
+    }
+
+pub returns : goal.returns
+returns c =
+    let here = c.loop-view in
+    let none : here.rest.now ≡ [] = search rules in
+    record {
+      items = sym (append-nil here.to.items)
+          ∙ ap (λ (vs : List ActView). here.to.items ++ lines_of vs) (sym none)
+          ∙ here.invariant.items;
+      longest = omega (arith, here.invariant.long);
+      capacity = here.invariant.capacity;
+    }
