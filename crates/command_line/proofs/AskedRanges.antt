@@ -10,8 +10,8 @@ use Rattle.hall_units.specs.Number.{bounded_number}
 use Rattle.command_line.specs.declared.types.Command.{Command}
 use Rattle.command_line.specs.declared.types.Command.TheVariants.{Paper, Trial}
 use Rattle.command_line.specs.declared.table.NumberForm.{NumberForm}
-use Rattle.command_line.specs.declared.table.TheConstants.{AFTER, CONNECTIONS, COUNT, DOORS, LANES, LIMIT, ROWS}
-use Rattle.command_line.specs.declared.table.TheConstants.{MAX_DOOR_CONNECTIONS, MAX_PORT, NUMBER, PORT}
+use Rattle.command_line.specs.declared.table.TheConstants.{AFTER, CONNECTIONS, COUNT, DOORS, LANES, LIMIT, ROWS, SHIPMENTS}
+use Rattle.command_line.specs.declared.table.TheConstants.{MAX_DOOR_CONNECTIONS, MAX_PORT, MAX_SHIPMENTS, NUMBER, PORT}
 use Rattle.command_line.specs.declared.values.Values.{Values}
 use Rattle.command_line.specs.Taken.{IsInRange}
 use Rattle.command_line.specs.Words.{Item, Wanted, are_given, batch_in, command_of, form_of, given_items, given_number, in_range, items_in}
@@ -121,14 +121,17 @@ record AreWithin (batch given : Option (List ℕ)) (values : Values) : Type 0 wh
   remote : PortWithin values.remote
   after : IsWithin 0 MAX_ROWS values.after
   rows : IsWithin 0 MAX_ROWS values.rows
+  shipments : IsWithin 1 MAX_SHIPMENTS values.shipments
   named : IsNamed batch values.batch
 
 values_within :
-    (batch limit lanes doors port connections number count remote after rows : Option (List ℕ))
-    (values : Values)
-    → values_in batch limit lanes doors port connections number count remote after rows ≡ Some values
+    (batch limit lanes doors port connections number count remote after rows shipments
+    : Option (List ℕ)) (values : Values)
+    → values_in batch limit lanes doors port connections number count remote after rows shipments
+    ≡ Some values
     → AreWithin batch count values
-values_within batch limit lanes doors port connections number count remote after rows values is =
+values_within batch limit lanes doors port connections number count remote after rows shipments
+    values is =
     then_gives (AreWithin batch count values) _ (batch_in batch) values is (λ b batch_is one.
     then_gives (AreWithin batch count values) _ (number_in LIMIT limit) values one (λ l limit_is two.
     then_gives (AreWithin batch count values) _ (number_in LANES lanes) values two (λ n lanes_is three.
@@ -143,7 +146,9 @@ values_within batch limit lanes doors port connections number count remote after
     (λ r remote_is nine.
     then_gives (AreWithin batch count values) _ (number_in AFTER after) values nine
     (λ a after_is ten.
-    map_gives (AreWithin batch count) _ (number_in ROWS rows) values ten (λ o rows_are. record {
+    then_gives (AreWithin batch count values) _ (number_in ROWS rows) values ten (λ o rows_are eleven.
+    map_gives (AreWithin batch count) _ (number_in SHIPMENTS shipments) values eleven
+    (λ m shipments_are. record {
       limit = number_within LIMIT limit l (omega arith) (omega arith) limit_is;
       lanes = number_within LANES lanes n (omega arith) (omega arith) lanes_is;
       doors = number_within DOORS doors d (omega arith) (omega arith) doors_is;
@@ -155,8 +160,9 @@ values_within batch limit lanes doors port connections number count remote after
       remote = remote_within remote r remote_is;
       after = number_within AFTER after a (omega arith) (omega arith) after_is;
       rows = number_within ROWS rows o (omega arith) (omega arith) rows_are;
+      shipments = number_within SHIPMENTS shipments m (omega arith) (omega arith) shipments_are;
       named = is_named batch b batch_is;
-    })))))))))))
+    }))))))))))))
 
 -- the two words of a trial say how many packs it has
 count_placed : (words : List (List ℕ)) (items : List Item)
@@ -223,7 +229,7 @@ by_values command items wanted given named is =
     (value_of items (codes "port")) (value_of items (codes "connections"))
     (value_of items (codes "number")) (value_of items (codes "count"))
     (value_of items (codes "remote")) (value_of items (codes "after")) (value_of items (codes "rows"))
-    values values_are in
+    (value_of items (codes "shipments")) values values_are in
     record {
       least = within.limit.from;
       most = within.limit.to;
@@ -236,6 +242,8 @@ by_values command items wanted given named is =
       remote = within.remote;
       after = within.after.to;
       rows = within.rows.to;
+      shipments_least = within.shipments.from;
+      shipments_most = within.shipments.to;
       packs = within.count.to;
       some = λ trial.
           let text = given trial in

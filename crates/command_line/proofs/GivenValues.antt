@@ -139,36 +139,39 @@ read_of = option_and_then (λ items. named_values (value_of items))
 
 -- texts that are the values of their names say what these say
 pub texts_read : (value : List ℕ → Option (List ℕ))
-    (batch limit lanes doors port connections number count remote after rows : Option (List ℕ))
-    → batch ≡ value (codes "batch") → limit ≡ value (codes "limit")
+    (batch limit lanes doors port connections number count remote after rows shipments
+    : Option (List ℕ)) → batch ≡ value (codes "batch") → limit ≡ value (codes "limit")
     → lanes ≡ value (codes "lanes") → doors ≡ value (codes "doors") → port ≡ value (codes "port")
     → connections ≡ value (codes "connections") → number ≡ value (codes "number")
     → count ≡ value (codes "count") → remote ≡ value (codes "remote")
     → after ≡ value (codes "after") → rows ≡ value (codes "rows")
-    → values_in batch limit lanes doors port connections number count remote after rows
+    → shipments ≡ value (codes "shipments")
+    → values_in batch limit lanes doors port connections number count remote after rows shipments
     ≡ named_values value
-texts_read value batch limit lanes doors port connections number count remote after rows
-    b l n d p s u c r a o = rw (b, l, n, d, p, s, u, c, r, a, o) refl
+texts_read value batch limit lanes doors port connections number count remote after rows shipments
+    b l n d p s u c r a o m = rw (b, l, n, d, p, s, u, c, r, a, o, m) refl
 
 pub items_read : (left : Option (List Item))
-    (batch limit lanes doors port connections number count remote after rows : Option (List ℕ))
-    → is_some left ≡ true → Gives left (codes "batch") batch → Gives left (codes "limit") limit
+    (batch limit lanes doors port connections number count remote after rows shipments
+    : Option (List ℕ)) → is_some left ≡ true → Gives left (codes "batch") batch → Gives left (codes "limit") limit
     → Gives left (codes "lanes") lanes → Gives left (codes "doors") doors
     → Gives left (codes "port") port → Gives left (codes "connections") connections
     → Gives left (codes "number") number → Gives left (codes "count") count
     → Gives left (codes "remote") remote → Gives left (codes "after") after
-    → Gives left (codes "rows") rows
-    → is_some (values_in batch limit lanes doors port connections number count remote after rows)
+    → Gives left (codes "rows") rows → Gives left (codes "shipments") shipments
+    → is_some (values_in batch limit lanes doors port connections number count remote after rows
+    shipments)
     ≡ is_some (read_of left)
-items_read None batch limit lanes doors port connections number count remote after rows is
-    b l n d p s u c r a o = cc
-items_read (Some items) batch limit lanes doors port connections number count remote after rows is
-    b l n d p s u c r a o =
+items_read None batch limit lanes doors port connections number count remote after rows shipments
+    is b l n d p s u c r a o m = cc
+items_read (Some items) batch limit lanes doors port connections number count remote after rows
+    shipments is b l n d p s u c r a o m =
     ap (λ (values : Option Values). is_some values)
     (texts_read (value_of items) batch limit lanes doors port connections number count remote after
-    rows
+    rows shipments
     (b items refl) (l items refl) (n items refl) (d items refl) (p items refl) (s items refl)
-    (u items refl) (c items refl) (r items refl) (a items refl) (o items refl))
+    (u items refl) (c items refl) (r items refl) (a items refl) (o items refl)
+    (m items refl))
 
 pub none_read : (left : Option (List Item)) → is_some left ≡ false
     → is_some (read_of left) ≡ false
@@ -265,6 +268,7 @@ pub asks_read : (command : Command) (left : Option (List Item)) (value : List �
       remote = values.remote;
       after = values.after;
       rows = values.rows;
+      shipments = values.shipments;
     })
 asks_read command None value values book cells some given read b c = cc
 asks_read command (Some items) value values book cells some given read b c =

@@ -5,7 +5,7 @@ use Rattle.std.specs.Borrow.{Bor}
 use Rattle.hall_limits.specs.declared.TheConstants.{MAX_DOOR, MAX_LANE, MAX_ROWS, MAX_TRIAL}
 use Rattle.command_line.specs.declared.table.Form.{Form as TableForm}
 use Rattle.command_line.specs.declared.table.Form.TheVariants as table
-use Rattle.command_line.specs.declared.table.TheConstants.{MAX_DOOR_CONNECTIONS, MAX_PORT}
+use Rattle.command_line.specs.declared.table.TheConstants.{MAX_DOOR_CONNECTIONS, MAX_PORT, MAX_SHIPMENTS}
 use Rattle.command_line.specs.declared.types.Command.TheVariants.{Paper, Trial}
 use Rattle.command_line.specs.declared.types.Wants.{Wants}
 use Rattle.command_line.specs.Words.{Form, Wanted, are_taken, items_in, read_items, value_of}
@@ -52,11 +52,12 @@ seen wants = record {
   remote = wants.remote;
   after = wants.after;
   rows = wants.rows;
+  shipments = wants.shipments;
 }
 
 -- the numbers that are asked for are in their ranges: a book has room for a row at least, each door
--- has a port and a connection at least, each cell of a lane a port where they listen, a trial has a
--- pack at least, and a paper a batch
+-- has a port and a connection at least, each cell of a lane a port where they listen, a shipment at
+-- least is followed, a trial has a pack at least, and a paper a batch
 pub record IsInRange (wanted : Wanted) : Type 0 where
   pub least : 1 ≤ wanted.limit
   pub most : wanted.limit ≤ MAX_ROWS
@@ -69,6 +70,8 @@ pub record IsInRange (wanted : Wanted) : Type 0 where
   pub remote : IfSome wanted.remote (λ port. (1 ≤ port) × (port ≤ MAX_PORT))
   pub after : wanted.after ≤ MAX_ROWS
   pub rows : wanted.rows ≤ MAX_ROWS
+  pub shipments_least : 1 ≤ wanted.shipments
+  pub shipments_most : wanted.shipments ≤ MAX_SHIPMENTS
   pub packs : wanted.count ≤ MAX_TRIAL
   pub some : wanted.command ≡ Trial → 1 ≤ wanted.count
   pub named : wanted.command ≡ Paper → is_some wanted.batch ≡ true

@@ -19,7 +19,7 @@ use Rattle.command_line.specs.declared.types.Command.TheVariants as verb
 use Rattle.command_line.specs.declared.values.Values.{Values}
 use Rattle.command_line.specs.declared.table.NumberForm.{NumberForm}
 use Rattle.command_line.specs.declared.table.TheConstants.{LIMIT, LANES, DOORS, PORT, CONNECTIONS}
-use Rattle.command_line.specs.declared.table.TheConstants.{NUMBER, COUNT, AFTER, ROWS}
+use Rattle.command_line.specs.declared.table.TheConstants.{NUMBER, COUNT, AFTER, ROWS, SHIPMENTS}
 
 -- a name, and the value given to it
 pub record Item : Type 0 where
@@ -29,8 +29,8 @@ pub record Item : Type 0 where
 -- what is asked for: a command, the path of the book and a batch where they are named, the most
 -- rows, how many lanes and doors, the folder of the lanes' files where one is named, the port of
 -- the first door, the connections of each, the numbers of a trial, the port of the first lane's cell
--- where one is named, how many rows a shipment or a book's text passes over, and how many rows a
--- fingerprint is of
+-- where one is named, how many rows a shipment or a book's text passes over, how many rows a
+-- fingerprint is of, and how many shipments are followed at most
 pub record Wanted : Type 0 where
   pub command : Command
   pub book : Option (List ℕ)
@@ -46,6 +46,7 @@ pub record Wanted : Type 0 where
   pub remote : Option ℕ
   pub after : ℕ
   pub rows : ℕ
+  pub shipments : ℕ
 
 -- the bytes of each word
 abbrev pub bytes_of : List (String Global) → List (List ℕ)
@@ -86,7 +87,7 @@ form_of Import = options (codes "book" ∷ codes "limit" ∷ [])
 form_of Trial = places (codes "number" ∷ codes "count" ∷ [])
 form_of Migrate = options (codes "book" ∷ [])
 form_of Ship = options (codes "book" ∷ codes "after" ∷ [])
-form_of Follow = options (codes "book" ∷ [])
+form_of Follow = options (codes "book" ∷ codes "shipments" ∷ [])
 form_of Paper = needed (codes "book" ∷ codes "batch" ∷ [])
 form_of Prove = options []
 form_of verb.List = options (codes "book" ∷ codes "limit" ∷ [])
@@ -198,14 +199,14 @@ batch_in (Some text) = option_map (λ name. Some name) (name_of text)
 
 -- what is read of these texts, where each is in its range
 abbrev pub values_in :
-    (batch limit lanes doors port connections number count remote after rows : Option (List ℕ))
-    → Option Values
-values_in batch limit lanes doors port connections number count remote after rows =
+    (batch limit lanes doors port connections number count remote after rows shipments
+    : Option (List ℕ)) → Option Values
+values_in batch limit lanes doors port connections number count remote after rows shipments =
     option_and_then (λ batch.
     option_and_then (λ limit. option_and_then (λ lanes. option_and_then (λ doors.
     option_and_then (λ port. option_and_then (λ connections. option_and_then (λ number.
     option_and_then (λ count. option_and_then (λ remote. option_and_then (λ after.
-    option_map (λ rows. record {
+    option_and_then (λ rows. option_map (λ shipments. record {
       batch = batch;
       limit = limit;
       lanes = lanes;
@@ -217,7 +218,8 @@ values_in batch limit lanes doors port connections number count remote after row
       remote = remote;
       after = after;
       rows = rows;
-    }) (number_in ROWS rows)) (number_in AFTER after)) (given_number PORT remote))
+      shipments = shipments;
+    }) (number_in SHIPMENTS shipments)) (number_in ROWS rows)) (number_in AFTER after)) (given_number PORT remote))
     (number_in COUNT count)) (number_in NUMBER number)) (number_in CONNECTIONS connections))
     (number_in PORT port)) (number_in DOORS doors)) (number_in LANES lanes))
     (number_in LIMIT limit)) (batch_in batch)
@@ -227,7 +229,7 @@ abbrev pub named_values : (List ℕ → Option (List ℕ)) → Option Values
 named_values value = values_in (value (codes "batch")) (value (codes "limit")) (value (codes "lanes"))
     (value (codes "doors")) (value (codes "port")) (value (codes "connections"))
     (value (codes "number")) (value (codes "count")) (value (codes "remote"))
-    (value (codes "after")) (value (codes "rows"))
+    (value (codes "after")) (value (codes "rows")) (value (codes "shipments"))
 
 -- what a command asks for by the values of its names
 abbrev pub wanted_values : Command → (List ℕ → Option (List ℕ)) → Option Wanted
@@ -246,6 +248,7 @@ wanted_values command value = option_map (λ values. record {
   remote = values.remote;
   after = values.after;
   rows = values.rows;
+  shipments = values.shipments;
 }) (named_values value)
 
 -- what a command asks for by the words after it

@@ -69,6 +69,7 @@ pub fn wants(alloc: Global, words: &[String]) -> Result<Wants, WantsError>
         remote: values.remote,
         after: values.after,
         rows: values.rows,
+        shipments: values.shipments,
     })
 }
 
@@ -88,6 +89,7 @@ fn values_in(matches: &ArgMatches) -> Option<Values>
         remote: matches.get_str("remote"),
         after: matches.get_str("after"),
         rows: matches.get_str("rows"),
+        shipments: matches.get_str("shipments"),
     })
 }
 

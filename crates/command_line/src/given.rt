@@ -62,6 +62,7 @@ fn are_options_read(names: &[&str], words: &[String]) -> bool
         remote: find_value("remote", words),
         after: find_value("after", words),
         rows: find_value("rows", words),
+        shipments: find_value("shipments", words),
     };
     read_values(&texts).is_some()
 }
@@ -86,6 +87,7 @@ fn are_places_read(names: &[&str], words: &[String]) -> bool
         remote: placed_value(names, "remote", words),
         after: placed_value(names, "after", words),
         rows: placed_value(names, "rows", words),
+        shipments: placed_value(names, "shipments", words),
     };
     read_values(&texts).is_some()
 }

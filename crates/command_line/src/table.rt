@@ -63,7 +63,7 @@ pub fn form_of(command: Command) -> Form
         Command::Trial => Form::Places(&["number", "count"]),
         Command::Migrate => Form::Options(&["book"]),
         Command::Ship => Form::Options(&["book", "after"]),
-        Command::Follow => Form::Options(&["book"]),
+        Command::Follow => Form::Options(&["book", "shipments"]),
         Command::Paper => Form::Needed(&["book", "batch"]),
         Command::Prove => Form::Options(&[]),
         Command::List => Form::Options(&["book", "limit"]),
@@ -142,6 +142,16 @@ pub const ROWS: NumberForm = NumberForm {
     least: 0,
     most: MAX_ROWS as u64,
     absent: MAX_ROWS as u64,
+};
+
+/// The most shipments that are followed, one right after another: a day of eleven a second.
+pub const MAX_SHIPMENTS: u32 = 1_000_000;
+
+/// How many shipments are followed at most.
+pub const SHIPMENTS: NumberForm = NumberForm {
+    least: 1,
+    most: MAX_SHIPMENTS as u64,
+    absent: 1,
 };
 
 /// How many rows a shipment or a book's text passes over.

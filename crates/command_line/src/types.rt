@@ -25,7 +25,8 @@ pub enum Command {
     Migrate,
     /// Writes the rows of a book behind the first so many: `ship [--book PATH] [--after N]`
     Ship,
-    /// Adds the rows of a shipment to a book: `follow [--book PATH]`
+    /// Adds the rows of shipments to a book, one after another: `follow [--book PATH]
+    /// [--shipments N]`
     Follow,
     /// Writes the paper of a closed batch: `paper --book PATH --batch NAME`
     Paper,
@@ -74,6 +75,8 @@ pub struct Wants {
     /// How many rows a fingerprint is of, 0 to `MAX_ROWS`, the first ones; `MAX_ROWS` for other
     /// commands.
     pub rows: u32,
+    /// How many shipments are followed at most, 1 to `MAX_SHIPMENTS`; 1 for other commands.
+    pub shipments: u32,
 }
 
 /// Why the words give nothing.

@@ -4,7 +4,7 @@ ghost use Rattle.command_line.specs.Taken.{bytes_in};
 ghost use Rattle.command_line.specs.declared.table.TheConstants.{PORT};
 
 use crate::table::{
-    AFTER, CONNECTIONS, COUNT, DOORS, LANES, LIMIT, NUMBER, NumberForm, PORT, ROWS,
+    AFTER, CONNECTIONS, COUNT, DOORS, LANES, LIMIT, NUMBER, NumberForm, PORT, ROWS, SHIPMENTS,
 };
 use book_words::Name;
 use hall_units::read_number;
@@ -23,6 +23,7 @@ pub struct Texts<'a> {
     pub remote: Option<&'a str>,
     pub after: Option<&'a str>,
     pub rows: Option<&'a str>,
+    pub shipments: Option<&'a str>,
 }
 
 /// The values that were read.
@@ -39,6 +40,7 @@ pub struct Values {
     pub remote: Option<u16>,
     pub after: u32,
     pub rows: u32,
+    pub shipments: u32,
 }
 
 /// What the texts of values say, where each is in its range.
@@ -46,7 +48,8 @@ pub fn read_values(texts: &Texts) -> Option<Values>
     ensures { result ≡ values_in (bytes_in texts.now.batch) (bytes_in texts.now.limit)
         (bytes_in texts.now.lanes) (bytes_in texts.now.doors) (bytes_in texts.now.port)
         (bytes_in texts.now.connections) (bytes_in texts.now.number) (bytes_in texts.now.count)
-        (bytes_in texts.now.remote) (bytes_in texts.now.after) (bytes_in texts.now.rows) }
+        (bytes_in texts.now.remote) (bytes_in texts.now.after) (bytes_in texts.now.rows)
+        (bytes_in texts.now.shipments) }
 {
     let batch = read_batch(texts.batch)?;
     let limit = read_within(&LIMIT, texts.limit)?;
@@ -59,6 +62,7 @@ pub fn read_values(texts: &Texts) -> Option<Values>
     let remote = read_port(texts.remote)?;
     let after = read_within(&AFTER, texts.after)?;
     let rows = read_within(&ROWS, texts.rows)?;
+    let shipments = read_within(&SHIPMENTS, texts.shipments)?;
     Some(Values {
         batch,
         limit: limit as u32,
@@ -71,6 +75,7 @@ pub fn read_values(texts: &Texts) -> Option<Values>
         remote,
         after: after as u32,
         rows: rows as u32,
+        shipments: shipments as u32,
     })
 }
 

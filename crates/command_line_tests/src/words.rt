@@ -27,6 +27,7 @@ struct Asked {
     remote: Option<u16>,
     after: u32,
     rows: u32,
+    shipments: u32,
 }
 
 const RUN: Asked = Asked {
@@ -44,6 +45,7 @@ const RUN: Asked = Asked {
     remote: None,
     after: 0,
     rows: MAX_ROWS,
+    shipments: 1,
 };
 
 const SERVE: Asked = Asked {
@@ -122,7 +124,7 @@ const ACTS: Asked = Asked {
 const BOOK: Option<&str> = Some("b.hall");
 
 // Words and what they ask for, written by hand from the grammar, as what follows.
-static ASKED: [(Words, Asked); 71] = [
+static ASKED: [(Words, Asked); 74] = [
     (&["run"], RUN),
     (&["check"], CHECK),
     (&["migrate"], MIGRATE),
@@ -319,6 +321,22 @@ static ASKED: [(Words, Asked); 71] = [
         &["follow", "--book", "b.hall"],
         Asked {
             book: BOOK,
+            ..FOLLOW
+        },
+    ),
+    (&["follow", "--shipments=1"], FOLLOW),
+    (
+        &["follow", "--shipments", "2"],
+        Asked {
+            shipments: 2,
+            ..FOLLOW
+        },
+    ),
+    (
+        &["follow", "--shipments=1000000", "--book=b.hall"],
+        Asked {
+            book: BOOK,
+            shipments: 1_000_000,
             ..FOLLOW
         },
     ),
@@ -560,7 +578,7 @@ static REFUSED: [Words; 95] = [
 
 // The same, of the commands that copy a book, write and prove a paper, list what is in force,
 // audit, or write a book as text.
-static REFUSED_COPIES: [Words; 47] = [
+static REFUSED_COPIES: [Words; 52] = [
     &["ship", "--after", "1000001"],
     &["ship", "--after=-1"],
     &["ship", "--after="],
@@ -570,6 +588,11 @@ static REFUSED_COPIES: [Words; 47] = [
     &["follow", "--after=1"],
     &["follow", "--limit=5"],
     &["follow", "--batch=A"],
+    &["follow", "--shipments=0"],
+    &["follow", "--shipments", "1000001"],
+    &["follow", "--shipments="],
+    &["follow", "--shipments=2", "--shipments=2"],
+    &["ship", "--shipments=2"],
     &["paper"],
     &["paper", "--book=b"],
     &["paper", "--batch=A"],
@@ -656,6 +679,7 @@ fn is_found(found: &Wants, asked: &Asked) -> bool {
         && found.remote == asked.remote
         && found.after == asked.after
         && found.rows == asked.rows
+        && found.shipments == asked.shipments
 }
 
 // Whether words ask for this.

@@ -12,8 +12,8 @@ returns c =
     let taken : is_some (placed_items (texts_of c.args.names.now) words) ≡ true = search rules in
     let found : c.is_some.result ≡ is_some c.read_values.result = search rules in
     found ∙ ap (λ (values : Option Values). is_some values) c.read_values.ensures
-    ∙ items_read (placed_items (texts_of c.args.names.now) words) _ _ _ _ _ _ _ _ _ _ _ taken
+    ∙ items_read (placed_items (texts_of c.args.names.now) words) _ _ _ _ _ _ _ _ _ _ _ _ taken
     c.placed_value.ensures c.placed_value-2.ensures c.placed_value-3.ensures
     c.placed_value-4.ensures c.placed_value-5.ensures c.placed_value-6.ensures
     c.placed_value-7.ensures c.placed_value-8.ensures c.placed_value-9.ensures
-    c.placed_value-10.ensures c.placed_value-11.ensures
+    c.placed_value-10.ensures c.placed_value-11.ensures c.placed_value-12.ensures
