@@ -27,10 +27,10 @@ def timed(words, given, taken):
     return seconds, used.ru_maxrss
 
 
-def by_hall():
+def by_hall(hall=program):
     answers = work + "/answers"
     book = fresh(work + "/hall")
-    seconds, _ = timed([program, "run", "--book", book], work + "/few", answers)
+    seconds, _ = timed([hall, "run", "--book", book], work + "/few", answers)
     with open(answers) as told:
         passed = sum(line.endswith(" pass\n") for line in told)
     if passed != weighings:
@@ -38,9 +38,13 @@ def by_hall():
     return seconds
 
 
-def by_loop():
+# the calls of rows, in a file that each makes longer, or over zeros that were written before
+def by_loop(over=False):
     file = os.open(fresh(work + "/loop"), os.O_RDWR | os.O_CREAT, 0o644)
-    body = bytes(range(1, SLOT))
+    body = bytes(range(1, SLOT + 1))
+    if over:
+        os.pwrite(file, bytes(SLOT * (weighings + 2)), 0)
+        os.fdatasync(file)
     began = time.perf_counter()
     for row in range(1, weighings + 1):
         os.pwrite(file, body, SLOT * row + 1)
@@ -67,17 +71,27 @@ def by_sqlite():
     return seconds
 
 
+WAYS = {
+    "hall": by_hall,
+    "loop over zeros": lambda: by_loop(over=True),
+    "loop that grows": by_loop,
+    "SQLite": by_sqlite,
+}
+if "BEFORE" in os.environ:
+    WAYS["hall before"] = lambda: by_hall(os.environ["BEFORE"])
+
+
 def appending():
     best = {}
     for _ in range(3):
-        for name, way in (("hall", by_hall), ("loop", by_loop), ("SQLite", by_sqlite)):
+        for name, way in WAYS.items():
             best[name] = min(best.get(name, float("inf")), way())
     for name, seconds in best.items():
         each = 1e6 * seconds / weighings
         print(f"{name}: {weighings / seconds:.0f} rows a second, {each:.0f} us a row")
-    to_loop, to_sqlite = best["hall"] / best["loop"], best["hall"] / best["SQLite"]
-    print(f"times of hall to the loop {to_loop:.2f}, to SQLite {to_sqlite:.2f}")
-    return to_loop
+    for name, seconds in best.items():
+        print(f"rows a second of hall to those of {name} {seconds / best['hall']:.2f}")
+    return best["hall"] / best["loop over zeros"]
 
 
 # the least time of five runs, and their greatest memory

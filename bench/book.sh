@@ -1,12 +1,15 @@
 #!/bin/sh
 # Measures a book in a file, in one run on one folder:
 #
-# Weighings a second through `hall run --book`, a fresh book each time, beside a bare loop in Python
-# that makes the same two writes and two data syncs a row (95 bytes and then their first one, as the
-# journal does), and beside SQLite with a write-ahead log and synchronous=FULL, one row of 96 bytes
-# a transaction. Best of three, in turn. A sync takes so long that Python's own time is small beside
-# it. Where hall takes less than half of the loop's time the run ends with status 1: so rows that
-# are never synced are seen, which no test and no kill can see.
+# Weighings a second through `hall run --book`, a fresh book each time, beside two bare loops in
+# Python that make the same two writes and two data syncs a row (96 bytes and then the one before
+# them, as the journal does), over zeros that were written before, and in a file that each row makes
+# longer; and beside SQLite with a write-ahead log and synchronous=FULL, one row of 96 bytes a
+# transaction. Best of three, in turn. A sync takes so long that Python's own time is small beside
+# it. Where hall takes less than half of the time of the loop over zeros the run ends with status 1:
+# so rows that are never synced are seen, which no test and no kill can see.
+#
+# BEFORE names a program whose rows are to be compared, in the same sitting.
 #
 # Then a book of 1 000 000 rows, made in a folder whose syncs are quick: `hall check` by the
 # snapshot that the run kept, by the slots alone (the same file cut behind its rows), opening the

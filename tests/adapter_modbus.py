@@ -148,7 +148,7 @@ def check_modbus(program: str, folder: str, packs: int, seed: str) -> None:
         wait_until(lambda: line.metric("hall_line_device_linked") == 1, "the device is there")
         time.sleep(0.2)
         lost = drive_modbus(device, line, cut, packs, random.Random(f"{seed} {kind}"))
-        settled(lambda: (os.path.getsize(room.book), device.take_lines()))
+        settled(lambda: (os.stat(room.book).st_mtime_ns, device.take_lines()))
         passed = [row for row in room.rows(1) if row.signal == "pass"]
         need(len(device.opened()) == len(passed), f"{len(device.opened())} openings, {len(passed)}")
         need(device.advice and all(advice < 32_768 for advice in device.advice), "no advice came")

@@ -218,7 +218,7 @@ def check_streams(room: Room, kind: str, packs: int, seed: str) -> tuple[int, in
             f"{line.name}: each pack is judged or reported: {line.notes()}, {stream.sent.faults},"
             f" {line.said()[-20:]}",
         )
-    settled(lambda: (read_gates(lines), os.path.getsize(room.book)), 2.0)
+    settled(lambda: (read_gates(lines), os.stat(room.book).st_mtime_ns), 2.0)
     sent = lost = 0
     faults: Counter[str] = Counter()
     for line, stream in zip(lines, streams):

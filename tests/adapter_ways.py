@@ -145,7 +145,7 @@ def check_kills(program: str, folder: str, packs: int, seed: str) -> None:
     if kills.fault:
         raise kills.fault
     wait_until(lambda: line.metric("hall_line_waiting") == 0, "each pack is judged or reported")
-    settled(lambda: (os.path.getsize(room.book), line.metric("hall_line_waiting")), 2.0)
+    settled(lambda: (os.stat(room.book).st_mtime_ns, line.metric("hall_line_waiting")), 2.0)
     compare_kills(room, line, sent, log)
     say(
         f"kills: {len(sent)} packs, {kills.times} kills; {len(opened_rows(log))} let out, each"

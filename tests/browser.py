@@ -234,9 +234,9 @@ def write(path, coded):
 def cut_between(browser, book, enter, down=False):
     """Enters an act whose answer is lost: the link is cut as soon as the book has its row, and may
     stay down."""
-    before = os.path.getsize(book)
+    before = os.stat(book).st_mtime_ns
     browser.relay.slow = True
     enter()
-    wait_until(lambda: os.path.getsize(book) > before, "the row of the act whose answer is lost")
+    wait_until(lambda: os.stat(book).st_mtime_ns > before, "the row of the act whose answer is lost")
     browser.relay.down = down
     browser.relay.cut()

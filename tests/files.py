@@ -108,6 +108,62 @@ os.rename("d", "e")
 need(hall.ask(b"product P 250\n") == b"2 ok\n", "a folder with another name is a fault")
 need(hall.end() == (0, ""), "a folder with another name is a fault at the end")
 
+# A book with room ahead: zeros up to the end of a piece, while its hall runs and where it was killed.
+PIECE = 65_536
+LAST = b"product P 250\n"
+os.remove("e/book")
+hall = Hall("e/book")
+need(hall.ask(DAY) == b"1 ok\n", "the first row isn't answered")
+older = content("e/book")
+need(len(older) == PIECE and not any(older[SLOT * 2:]), f"{len(older)} bytes are no piece of room")
+need(hall.ask(LAST) == b"2 ok\n", "the second row isn't answered")
+newer = content("e/book")
+need(len(newer) == PIECE and not any(newer[SLOT * 3:]), f"{len(newer)} bytes with two rows")
+said, status, errors = ask("check", "e/book")
+need((said, status) == (b"rows 1 whole\n", 0), f"check of a running book: {status} {said} {errors}")
+hall.process.kill()
+hall.end()
+need(content("e/book") == newer, "a kill has changed the file")
+for command in READING + ("audit",):
+    said, status, errors = ask(command, "e/book")
+    need((status, errors) == (0, ""), f"{command} of a killed book: {status} {errors}")
+    need(content("e/book") == newer, f"{command} changed a killed book")
+    need(command != "check" or said == b"rows 2 whole\n", f"check says {said}")
+# Opening for writing takes the room off, and a good end leaves what one leaves without room.
+need(ask("run", "e/book")[1] == 0 and content("e/book") == newer[:SLOT * 3 + 1],
+     "a run without rows leaves more than the two rows and their gate")
+put("e/book", newer)
+ended = ask("run", "e/book", b"tare P 2025-03-03 10\n")
+made = content("e/book")
+put("e/book", newer[:SLOT * 3 + 1])
+need(ask("run", "e/book", b"tare P 2025-03-03 10\n") == ended and content("e/book") == made
+     and made[MARK] == 1 and made[-SLOT:-SLOT + 2] == b"\0T", "room changes how a run ends")
+# More zeros than a hall leaves are nobody's room, and a file without the header has none.
+for size in (PIECE * 2, PIECE * 3):
+    put("e/book", newer[:SLOT * 3].ljust(size, b"\0"))
+    said, status, errors = ask("run", "e/book", b"tare P 2025-03-03 10\n")
+    need((said.split(b"\n")[0], status, errors) == (b"3 ok", 0, ""), f"{size} bytes: {errors}")
+    need(len(content("e/book")) == size, f"{size} bytes were cut to {len(content('e/book'))}")
+put("e/book", bytes(PIECE))
+need(ask("run", "e/book", DAY)[1] == 8 and content("e/book") == bytes(PIECE), "zeros are a book")
+
+# A book that somebody overwrites by an older copy of the same length is written no more.
+OVERWRITTEN = "hall: the book's disk failed: somebody else has cut or overwritten its file\n"
+for copy in (older, older[:SLOT * 2 + 1], newer[:SLOT * 3 + 1], newer + b"\0", b""):
+    put("e/book", b"")
+    hall = Hall("e/book")
+    need(hall.ask(DAY) + hall.ask(LAST) == b"1 ok\n2 ok\n", "the rows aren't answered")
+    put("e/book", copy)
+    need(hall.ask(LAST.replace(b"P", b"Q")) == b"disk fault\n", "a row in an older copy is answered")
+    need(hall.end() == (6, OVERWRITTEN) and content("e/book") == copy, "an older copy is written")
+# The same bytes are no fault, whoever wrote them.
+put("e/book", b"")
+hall = Hall("e/book")
+need(hall.ask(DAY) + hall.ask(LAST) == b"1 ok\n2 ok\n", "the rows aren't answered")
+put("e/book", content("e/book"))
+need(hall.ask(LAST.replace(b"P", b"Q")) == b"3 ok\n" and hall.end() == (0, ""), "the same bytes")
+put("e/book", newer[:SLOT * 3 + 1])
+
 # A book whose slots and snapshot differ is written by nobody.
 ROWS = 3000
 DIFFERS = ("hall: can't open book: row {} differs from its snapshot; `hall ship --book OLD | hall"

@@ -6,7 +6,7 @@ use crate::copying::{BookCopy, copy_book};
 use crate::named_file::NamedFile;
 use crate::notice::Notice;
 use crate::open_error::OpenError;
-use crate::opening::{make, open_present, with_same_rows};
+use crate::opening::{make, open_present, to_be_written};
 use crate::rows_left::RowsLeft;
 use device_facts::counted_once_more;
 use disk_core::{DISK_END, Disk, Failed, QuietDisk};
@@ -128,7 +128,8 @@ impl<R: Files<File = File> + AllocGlobal + Eprint + Drop> FileDisk<R> {
     /// empty, its folder is synced, so that a crash leaves its name. A file that can't be opened,
     /// made, locked or synced, that is no regular file, has at most 97 bytes that aren't the
     /// beginning of a book, or ends with a snapshot that fits and doesn't have the rows of its slots,
-    /// gives a disk that isn't open. Nothing is cut off a file.
+    /// gives a disk that isn't open. Nothing is cut off a file but the zeros that a hall wrote ahead
+    /// of its rows, at most 64 KB, and left there as it was killed.
     pub fn open(rt: R, path: &str) -> Self
         ensures { result.faults ≡ 0 }
     {
@@ -138,7 +139,7 @@ impl<R: Files<File = File> + AllocGlobal + Eprint + Drop> FileDisk<R> {
                 notice = Some(Notice::Made);
                 make(&rt, path)
             }
-            Ok(file) => with_same_rows(file),
+            Ok(file) => to_be_written(file),
             Err(error) => Err(error),
         };
         let backing = named(&rt, path, file);
@@ -148,7 +149,7 @@ impl<R: Files<File = File> + AllocGlobal + Eprint + Drop> FileDisk<R> {
     /// Opens the book at this path for a command that adds nothing. No file is made: where there is
     /// none the disk isn't open. A book that another hall has open, or whose file can't be written, is
     /// read into memory; otherwise the disk is as by `open`, and its slots aren't compared with a
-    /// snapshot.
+    /// snapshot; the zeros behind its rows stay there and don't count.
     pub fn open_to_read(rt: R, path: &str) -> Self
         ensures { result.faults ≡ 0 }
     {

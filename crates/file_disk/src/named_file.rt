@@ -1,3 +1,5 @@
+use crate::last_row::LastRow;
+use crate::room::{begins_row, counted, end_of_piece, sets_mark, write_zeros};
 use crate::size_limit::{greatest_size, too_large};
 use crate::transfer::{fill, settle};
 use std::alloc::Global;
@@ -7,16 +9,48 @@ use std::io::ErrorKind;
 use std::os::unix::fs::{FileExt, MetadataExt};
 use std::rt::Files;
 
-/// An open file, and the path that it was opened by.
-#[derive(Drop)]
+/// An open file, and the path that it was opened by. It may have zeros behind the bytes that count,
+/// as room for the rows to come; a file that is let go has none that this hall wrote.
 pub(crate) struct NamedFile {
     path: String,
     file: File,
     device: u64,
     number: u64,
-    // How many bytes it has, as far as this hall wrote it.
+    // How many bytes count: those that were written through this disk, and those there before.
     length: u64,
+    // How many bytes the file has, as far as this hall wrote it: those, and the room behind them.
+    size: u64,
+    // Whether this hall wrote room into it.
+    has_room: bool,
+    // The end up to which room was to be written last.
+    tried: u64,
+    // The row that was written last.
+    last: Option<LastRow>,
+    // Whether what was written last only begins a row, so that nothing is acknowledged by it.
+    begun_alone: bool,
     greatest_size: u64,
+}
+
+// By hand, since the room goes with it.
+impl Drop for NamedFile {
+    fn drop(self) {
+        if self.has_room && self.size > self.length && self.is_as_left().is_ok() {
+            let _ = self.file.set_len(self.length);
+        }
+        let Self {
+            path: _,
+            file: _,
+            device: _,
+            number: _,
+            length: _,
+            size: _,
+            has_room: _,
+            tried: _,
+            last: _,
+            begun_alone: _,
+            greatest_size: _,
+        } = self;
+    }
 }
 
 impl NamedFile {
@@ -25,6 +59,7 @@ impl NamedFile {
     /// Of a file that was opened at this path.
     pub(crate) fn new(alloc: Global, path: &str, file: File) -> io::Result<Self> {
         let found = file.metadata()?;
+        let length = counted(&file, found.len())?;
         let Ok(path) = format!(in alloc; "{path}") else {
             return Err(ErrorKind::OutOfMemory.into());
         };
@@ -33,53 +68,144 @@ impl NamedFile {
             file,
             device: found.dev(),
             number: found.ino(),
-            length: found.len(),
+            length,
+            size: found.len(),
+            has_room: false,
+            tried: 0,
+            last: None,
+            begun_alone: false,
             greatest_size: greatest_size(),
         })
     }
 
-    /// How many bytes the file has.
+    /// How many bytes count. It fails where somebody else has made the file longer or shorter.
     pub(crate) fn len(&self) -> io::Result<u64> {
-        Ok(self.file.metadata()?.len())
+        self.has_its_size()?;
+        Ok(self.length)
     }
 
-    /// Fills a buffer with the bytes from a place on, as many as there are.
+    /// Fills a buffer with the bytes from a place on, as many as count.
     pub(crate) fn read_at(&self, place: u64, into: &mut [u8]) -> io::Result<usize>
         ensures { IfOk result (λ count. count ≤ length into.new) }
     {
-        fill(&self.file, place, into)
+        let most = self.length.saturating_sub(place).min(into.len() as u64);
+        fill(&self.file, place, &mut into[..most as usize])
     }
 
     /// Puts all bytes into the file from a place on. It fails where the file would be larger than the
-    /// system allowed as it was opened, and where somebody else has made it longer or shorter since.
+    /// system allowed as it was opened, and where somebody else has made it longer or shorter since,
+    /// or has written over the last row. What begins a row gets room ahead, where there is any; what
+    /// makes a snapshot count is written to a file that ends with it.
     pub(crate) fn write_at(&mut self, place: u64, bytes: &[u8]) -> io::Result<()> {
         let end = place.saturating_add(bytes.len() as u64);
         if end > self.greatest_size {
             return Err(too_large());
         }
-        if self.len()? != self.length {
-            return Err(changed());
+        self.begun_alone = begins_row(place, bytes);
+        if self.begun_alone {
+            self.is_as_left()?;
+            self.make_room(end)?;
+        } else {
+            self.has_its_size()?;
+        }
+        if sets_mark(place, bytes) {
+            self.cut_room()?;
         }
         let done = self.file.write_all_at(bytes, place);
-        self.length = match &done {
-            Ok(()) => self.length.max(end),
-            // A part of the bytes may be there.
-            Err(_) => self.len()?,
-        };
+        self.note(place, bytes, done.is_ok())?;
         done
     }
 
-    /// Makes all that was put stable. It fails where the path names another file by now, or none, and
-    /// where somebody else has made the file longer or shorter.
-    pub(crate) fn sync<R: Files<File = File>>(&self, rt: &R) -> io::Result<()> {
-        settle(&self.file)?;
+    // Keeps what was written, or may be where the system failed.
+    fn note(&mut self, place: u64, bytes: &[u8], is_done: bool) -> io::Result<()> {
+        let end = place.saturating_add(bytes.len() as u64);
+        if is_done {
+            self.size = self.size.max(end);
+            self.last = self.last_row(place, bytes);
+        } else {
+            // A part of the bytes may be there.
+            self.size = self.file.metadata()?.len();
+            self.last = None;
+        }
+        self.length = self.length.max(end.min(self.size));
+        Ok(())
+    }
+
+    // The last row, where these bytes were written at a place.
+    fn last_row(&self, place: u64, bytes: &[u8]) -> Option<LastRow> {
+        if self.begun_alone {
+            return LastRow::begun(place, bytes);
+        }
+        let row = self.last?;
+        match bytes {
+            [byte] => Some(row.with_gate(place, *byte)),
+            _ => Some(row),
+        }
+    }
+
+    // Writes room ahead, where a row would make the file longer: up to the end of the piece in which
+    // it ends. Where that can't be written, as on a full disk, the file is as it was, and the rows of
+    // this piece make it longer one by one.
+    fn make_room(&mut self, end: u64) -> io::Result<()> {
+        let piece = end_of_piece(end);
+        if end <= self.size || end <= self.tried || piece > self.greatest_size {
+            return Ok(());
+        }
+        self.tried = piece;
+        if write_zeros(&self.file, self.size, piece).is_err() {
+            return self.file.set_len(self.size);
+        }
+        self.size = piece;
+        self.has_room = true;
+        Ok(())
+    }
+
+    // Takes the room away, so that the file ends with the bytes that count.
+    fn cut_room(&mut self) -> io::Result<()> {
+        if self.size > self.length {
+            self.file.set_len(self.length)?;
+            self.size = self.length;
+            self.tried = 0;
+            settle(&self.file)?;
+        }
+        Ok(())
+    }
+
+    /// Makes all that was put stable. It fails where somebody else has made the file longer or
+    /// shorter. Where more was put than the beginning of a row it fails too where the path names
+    /// another file by now, or none, and where somebody else has written over the last row.
+    pub(crate) fn sync<R: Files<File = File>>(&mut self, rt: &R) -> io::Result<()> {
+        let done = settle(&self.file);
+        if done.is_err() {
+            self.last = None;
+            return done;
+        }
+        if self.begun_alone {
+            self.begun_alone = false;
+            return self.has_its_size();
+        }
         if !self.is_named(rt)? {
             return Err(io::Error::other("the file at its path was replaced or deleted"));
         }
-        if self.len()? != self.length {
-            return Err(changed());
+        self.is_as_left()
+    }
+
+    // Fails where the file has another size than this hall left.
+    fn has_its_size(&self) -> io::Result<()> {
+        if self.file.metadata()?.len() == self.size {
+            Ok(())
+        } else {
+            Err(changed())
         }
-        Ok(())
+    }
+
+    // Fails where the file has another size, or another last row, than this hall left.
+    fn is_as_left(&self) -> io::Result<()> {
+        self.has_its_size()?;
+        match &self.last {
+            Some(row) if !row.stands_in(&self.file)? => Err(changed()),
+            _ => Ok(()),
+        }
     }
 
     // Whether the path names this file, or a folder on it goes by another name.
@@ -102,7 +228,7 @@ impl NamedFile {
     }
 }
 
-// Why a file isn't written that has another length than this hall left.
+// Why a file isn't written that isn't as this hall left it.
 fn changed() -> io::Error {
     io::Error::other("somebody else has cut or overwritten its file")
 }

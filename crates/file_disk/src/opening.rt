@@ -1,5 +1,6 @@
 use crate::copies::{read_running, read_still};
 use crate::open_error::OpenError;
+use crate::room::counted;
 use crate::slots_check::first_difference;
 use crate::transfer::settle;
 use book_file::{has_header, is_unbegun};
@@ -36,13 +37,18 @@ pub(crate) fn make<R: Files<File = File> + AllocGlobal>(
 }
 
 /// A file that is to be written: none whose slots hold other rows than the snapshot beside them,
-/// since the next row would throw the snapshot away.
-pub(crate) fn with_same_rows(file: File) -> Result<File, OpenError> {
+/// since the next row would throw the snapshot away. The room that a killed run left is taken off.
+pub(crate) fn to_be_written(file: File) -> Result<File, OpenError> {
     let size = file.metadata()?.len();
-    match first_difference(&file, size)? {
-        None => Ok(file),
-        Some(row) => Err(OpenError::Differs { row }),
+    if let Some(row) = first_difference(&file, size)? {
+        return Err(OpenError::Differs { row });
     }
+    let length = counted(&file, size)?;
+    if length < size {
+        file.set_len(length)?;
+        settle(&file)?;
+    }
+    Ok(file)
 }
 
 // Locks a file that is a book, or nothing yet. What a killed run wrote and didn't sync is stable
