@@ -10,15 +10,18 @@ error, since they would end the lane. The line after the last weight says `end`.
 acknowledged goes to standard output, with its number.
 
 Weights are numbered from 1 (`1 251.000`), by each hall anew. A line is said, and said again over a
-new connection where no acknowledgement comes within S seconds (5), or the connection ends. Whether
-the hall of a new connection is another one is seen from its answer: the first line there is the
-weight that isn't acknowledged with the number 1. A new hall takes it, and one that goes on says
-again how many it has taken. So this goes on over any restart of the hall, behind a tunnel too.
-Where one line was acknowledged so far, 5 seconds of silence tell the two apart, or a port that
-refused a connection meanwhile; a tunnel whose own port may do that is used with --book.
+new connection where no acknowledgement comes within S seconds (5), or the connection ends. The
+connection that was left is listened to until its end: a hall that is slow, or that ends, says there
+what it has taken. Whether the hall of a new connection is another one is seen from its answer: the
+first line there is the weight that isn't acknowledged with the number 1. A new hall takes it, and
+one that goes on says again how many it has taken. So this goes on over any restart of the hall,
+behind a tunnel too. Where one line was acknowledged so far, 5 seconds of silence tell the two
+apart, or a port that refused a connection meanwhile; a tunnel whose own port may do that is used
+with --book.
 
-One case the lines alone can't tell: a hall took a weight, it ended, and its acknowledgement was
-lost on the way. The next hall takes the weight again, and standard error reports it. With --book
+At the hall's own port no weight is taken twice by halls that end in good order. Behind a tunnel the
+lines alone can't tell one case: a hall took a weight, it ended, and its acknowledgement was lost or
+late on the way. The next hall takes the weight again, and standard error reports it. With --book
 this asks the book first whether lane L has the weight: at a door (http://127.0.0.1:8471), or at the
 front (https://NAME/hall), where FILE has `NAME:PASSWORD` of a person who may look.
 
@@ -55,6 +58,9 @@ LAST_WAIT = 10.0
 SILENCE = 5.0
 # How often a number is said in that time.
 TIMES = 3
+# How many connections that were left are heard at once; the oldest ones, where the line was said
+# first.
+MOST_LEFT = 16
 # Behind how many acknowledgements it is noted how many rows the book has.
 MARK_EVERY = 50
 # How long the book is asked in vain before a weight is said without that, in seconds.
@@ -112,19 +118,34 @@ class Numbers:
         # whether the hall of this connection is known to have taken what was acknowledged
         self.in_step = False
 
-    def connect(self, is_new_hall: bool) -> None:
-        """The connection is a new one; its hall is another one than before, or that isn't known."""
+    def connect(self, is_new_hall: bool, is_one_left: bool = False) -> None:
+        """The connection is a new one; its hall is another one than before, or that isn't known.
+        Where one that was left hasn't ended, its hall may go on: then 1 comes last."""
         self.in_step = False
         if is_new_hall and self.acknowledged == 1:
             self.tries = [1]
         elif not self.tries:
-            self.tries = [2, 1] if self.acknowledged == 1 else [1]
+            self.tries = [1]
+            if self.acknowledged == 1:
+                self.put_one_last()
+        if is_one_left:
+            self.put_one_last()
+
+    def put_one_last(self) -> None:
+        """Where a new hall would take the line under the number now, the next number comes first. A
+        hall that took it under the number before that one would take it again, though."""
+        if self.may_be_new() and self.acknowledged > 0 and self.acknowledged not in self.said:
+            self.tries = [self.acknowledged + 1, 1]
 
     def number(self) -> int:
         """The number to be said now."""
         number = self.acknowledged + 1 if self.in_step else self.tries[0]
         self.said.add(number)
         return number
+
+    def may_be_new(self) -> bool:
+        """Whether a new hall would take the line under the number now."""
+        return not self.in_step and self.tries[0] == 1
 
     def hear(self, number: int) -> bool:
         """Takes an acknowledgement. Says whether the line is acknowledged by it."""
@@ -138,6 +159,18 @@ class Numbers:
             self.in_step = True
             self.tries = []
         return False
+
+    def hear_left(self, number: int) -> bool:
+        """Takes an acknowledgement that came on a connection that was left. Says whether the line
+        is acknowledged by it."""
+        if number not in self.said:
+            return False
+        if self.said == {number}:
+            self.begin_line(number)
+            self.connect(False)
+        else:
+            self.skip_line()
+        return True
 
     def begin_line(self, acknowledged: int) -> None:
         """Goes on to the next line."""
@@ -157,9 +190,9 @@ class Numbers:
         return True
 
     def skip_line(self) -> None:
-        """The book has the line. The hall of this connection took it under a number under which it
-        was said, or is a new one that has taken none: the greatest number comes first, since others
-        are passed over."""
+        """The line is taken. The hall of this connection took it under a number under which it was
+        said, or is a new one that has taken none: the greatest number comes first, since others are
+        passed over."""
         may_have = sorted(self.said | {0}, reverse=True)
         self.begin_line(may_have[0])
         self.in_step = False
@@ -167,6 +200,15 @@ class Numbers:
 
 
 # ---- what the book has
+
+
+class Newest(enum.Enum):
+    """A weight of the lane that wasn't acknowledged. One that isn't settled is of a hall that goes
+    on, and acknowledges it again, or is about to end: it is settled then, or voided by the next."""
+
+    NONE = enum.auto()
+    UNSETTLED = enum.auto()
+    SETTLED = enum.auto()
 
 
 class Book:
@@ -220,25 +262,32 @@ class Book:
         finally:
             link.close()
 
+    def begin(self) -> None:
+        """Notes it before the first weight; a book that can't be asked yet is waited for."""
+        until = time.monotonic() + ASK_WAIT
+        self.mark()
+        while self.rows is None and time.monotonic() < until:
+            time.sleep(RETRY)
+            self.mark()
+
     def note(self) -> None:
         """A weight was acknowledged."""
         self.since += 1
         if self.rows is None or self.since >= MARK_EVERY:
             self.mark()
 
-    def has_more(self) -> bool:
-        """Whether the lane has one weight more than was acknowledged, and has settled it. One that
-        isn't settled is of a hall that goes on and acknowledges it again, or is voided by the next
-        hall before it listens to the scale."""
+    def newest(self) -> Newest:
+        """What the lane has beside the weights that were acknowledged."""
         if self.rows is None:
             raise OSError("it wasn't asked before")
         link = self.connect()
         try:
             packs = list(self.packs(link, self.rows, self.count_rows(link)))
-            if len(packs) != self.since + 1:
-                return False
+            if len(packs) != self.since + 1 or packs[-1][-1] == "voided":
+                return Newest.NONE
             lane = self.ask(link, f"/lanes/{self.lane}") or []
-            return packs[-1][-1] != "voided" and lane[-2:] != ["unsettled", packs[-1][1]]
+            is_open = lane[-2:] == ["unsettled", packs[-1][1]]
+            return Newest.UNSETTLED if is_open else Newest.SETTLED
         finally:
             link.close()
 
@@ -251,6 +300,46 @@ class Book:
 
 
 # ---- the sender
+
+
+class Link:
+    """A connection to a hall."""
+
+    def __init__(self, address: tuple[str, int], seconds: float):
+        self.socket = socket.create_connection(address, timeout=seconds)
+        self.socket.setsockopt(socket.IPPROTO_TCP, socket.TCP_NODELAY, 1)
+        self.socket.setsockopt(socket.SOL_SOCKET, socket.SO_KEEPALIVE, 1)
+        self.heard = b""
+
+    def fileno(self) -> int:
+        return self.socket.fileno()
+
+    def say(self, line: bytes) -> None:
+        self.socket.sendall(line)
+
+    def hear(self) -> list[int]:
+        """The numbers of the acknowledgements that came; an OSError where the line is cut."""
+        came = self.socket.recv(4096)
+        if not came:
+            raise ConnectionResetError
+        *lines, self.heard = (self.heard + came).split(b"\n")
+        found = [ACKNOWLEDGED.fullmatch(line) for line in lines]
+        if MAX_LINE < len(self.heard):
+            raise ConnectionAbortedError
+        numbers = [int(one[1]) for one in found if one]
+        if len(numbers) < len(lines):
+            raise ConnectionAbortedError
+        return numbers
+
+    def end(self) -> None:
+        """Says that nothing more comes; what the hall still says is heard."""
+        try:
+            self.socket.shutdown(socket.SHUT_WR)
+        except OSError:
+            pass
+
+    def close(self) -> None:
+        self.socket.close()
 
 
 class Sender:
@@ -267,78 +356,98 @@ class Sender:
         self.numbers = Numbers(first - 1)
         self.seconds = seconds
         self.book = book
-        self.link: socket.socket | None = None
-        self.heard = b""
+        self.link: Link | None = None
+        # the connections that were left while a line wasn't acknowledged, the oldest first
+        self.left: list[Link] = []
 
     def leave(self) -> None:
-        """Leaves the connection; what was heard on it of a line is none."""
+        """Leaves the connection; it is heard until its end, or until the line is acknowledged."""
         if self.link is not None:
-            self.link.close()
+            self.link.end()
+            self.left.append(self.link)
         self.link = None
-        self.heard = b""
+        while MOST_LEFT < len(self.left):
+            self.left.pop().close()
 
-    def connect(self, wait: float | None) -> socket.socket:
-        """The connection to the hall, for which it waits. A port that refuses says that the hall is
-        gone; with the book asked it says nothing, as that may be a tunnel's own port."""
+    def forget_left(self) -> None:
+        """The line is acknowledged: nothing is heard on the connections that were left."""
+        for link in self.left:
+            link.close()
+        self.left = []
+
+    def connect(self, wait: float | None) -> Link | None:
+        """The connection to the hall, for which it waits; nothing where the line is acknowledged
+        meanwhile. A port that refuses says that the hall is gone; with the book asked it says
+        nothing, as that may be a tunnel's own port."""
         began = time.monotonic()
         was_refused = False
         while self.link is None:
+            if self.hears_left():
+                return None
             try:
-                self.link = socket.create_connection(self.address, timeout=self.seconds)
-                self.link.setsockopt(socket.IPPROTO_TCP, socket.TCP_NODELAY, 1)
-                self.link.setsockopt(socket.SOL_SOCKET, socket.SO_KEEPALIVE, 1)
-                self.numbers.connect(was_refused and self.book is None)
+                self.link = Link(self.address, self.seconds)
             except OSError as fault:
                 was_refused = was_refused or isinstance(fault, ConnectionRefusedError)
                 if wait is not None and wait < time.monotonic() - began:
                     raise Gone from None
                 time.sleep(RETRY)
+                continue
+            # what the hall before this one said came before this one took the connection
+            if self.hears_left():
+                return None
+            self.numbers.connect(was_refused and self.book is None, bool(self.left))
         return self.link
 
-    def hear(self, link: socket.socket) -> list[int]:
-        """The numbers of the acknowledgements that came; an OSError where the line is cut."""
-        came = link.recv(4096)
-        if not came:
-            raise ConnectionResetError
-        *lines, self.heard = (self.heard + came).split(b"\n")
-        found = [ACKNOWLEDGED.fullmatch(line) for line in lines]
-        if MAX_LINE < len(self.heard):
-            raise ConnectionAbortedError
-        numbers = [int(one[1]) for one in found if one]
-        if len(numbers) < len(lines):
-            raise ConnectionAbortedError
-        return numbers
+    def hears_left(self) -> bool:
+        """Hears what came on the connections that were left. Whether the line is acknowledged."""
+        for link in list(self.left):
+            try:
+                while select.select([link], [], [], 0)[0]:
+                    if any(self.numbers.hear_left(number) for number in link.hear()):
+                        return True
+            except OSError:
+                link.close()
+                self.left.remove(link)
+        return False
 
-    def answer(self, link: socket.socket, seconds: float) -> Answer:
-        """What comes of the present line in so many seconds."""
+    def answer(self, link: Link, seconds: float) -> Answer:
+        """What comes of the present line in so many seconds. What has come by then is heard, also
+        where this looks late."""
         until = time.monotonic() + seconds
         was_in_step = self.numbers.in_step
-        while 0 < (left := until - time.monotonic()):
-            if not select.select([link], [], [], left)[0]:
-                break
+        while True:
+            left = max(0.0, until - time.monotonic())
+            ready = select.select([link, *self.left], [], [], left)[0]
+            if not ready:
+                return Answer.SILENCE
+            if self.hears_left():
+                return Answer.DONE
             # each is looked at, so that none counts for the next line
-            if any([self.numbers.hear(number) for number in self.hear(link)]):
+            if link in ready and any([self.numbers.hear(number) for number in link.hear()]):
                 return Answer.DONE
             if self.numbers.in_step and not was_in_step:
                 return Answer.OTHER_NUMBER
-        return Answer.SILENCE
 
-    def ask(self, link: socket.socket, what: bytes) -> Answer:
+    def ask(self, link: Link, what: bytes) -> Answer:
         """Says a line under the present number, a few times where silence has a meaning."""
         times = TIMES if self.numbers.is_silence_told() else 1
         seconds = self.seconds if times == 1 else min(self.seconds, SILENCE) / TIMES
         for _ in range(times):
-            link.sendall(b"%d %s\n" % (self.numbers.number(), what))
+            link.say(b"%d %s\n" % (self.numbers.number(), what))
             answer = self.answer(link, seconds)
             if answer is not Answer.SILENCE:
                 return answer
         return Answer.SILENCE
 
-    def is_said(self, link: socket.socket, what: bytes) -> bool:
-        """Says a line under each number that is to be tried here. Whether it is acknowledged."""
+    def is_said(self, link: Link, what: bytes, began: float) -> bool:
+        """Says a line under each number that is to be tried here. Whether it is acknowledged, or in
+        the book, which is asked again before another number is tried."""
         while (answer := self.ask(link, what)) is not Answer.DONE:
-            if answer is Answer.SILENCE and not self.numbers.is_next_tried():
-                return False
+            if answer is Answer.SILENCE:
+                if not self.numbers.is_next_tried():
+                    return False
+                if self.is_in_book(what, began):
+                    return True
         return True
 
     def say(self, what: bytes, wait: float | None = None) -> int:
@@ -348,17 +457,21 @@ class Sender:
         while True:
             try:
                 link = self.connect(wait)
-                if connections > 0 and self.is_in_book(what, began):
-                    return before + 1
+                if link is None or connections > 0 and self.is_in_book(what, began):
+                    break
                 connections += 1
-                if self.is_said(link, what):
+                if self.is_said(link, what, began):
+                    if not self.numbers.in_step:
+                        # what the hall still says here is of this line, not of the next
+                        self.leave()
                     break
             except OSError:
                 time.sleep(RETRY)
             self.leave()
+        self.forget_left()
         number = self.numbers.acknowledged
-        may_be_new = before == 0 or number != before + 1
-        if connections > 1 and may_be_new and self.book is None and what != b"end":
+        is_new = self.numbers.in_step and (before == 0 or number != before + 1)
+        if connections > 1 and is_new and self.book is None and what != b"end":
             report(
                 f"{what.decode()} was said before to a hall that ended without acknowledging it:"
                 " see that the book hasn't it twice"
@@ -370,15 +483,17 @@ class Sender:
         if self.book is None or what == b"end":
             return False
         try:
-            if not self.book.has_more():
-                return False
+            newest = self.book.newest()
         except OSError as fault:
             if time.monotonic() - began < ASK_WAIT:
                 raise
             report(f"{what.decode()} is said again, and the book can't be asked for it: {fault}")
             return False
-        self.numbers.skip_line()
-        return True
+        if newest is Newest.UNSETTLED:
+            self.numbers.put_one_last()
+        elif newest is Newest.SETTLED:
+            self.numbers.skip_line()
+        return newest is Newest.SETTLED
 
     def idle(self) -> bytes:
         """Waits for the scale's next bytes, and leaves a connection that ends meanwhile."""
@@ -387,9 +502,10 @@ class Sender:
             ready, _, _ = select.select([0, *links], [], [])
             try:
                 if self.link in ready and self.link is not None:
-                    self.hear(self.link)
+                    self.link.hear()
             except OSError:
                 self.leave()
+                self.forget_left()
             if 0 in ready:
                 return os.read(0, 4096)
 
@@ -430,7 +546,7 @@ def say_all(sender: Sender) -> int:
     """Says all weights, and then the end. The status."""
     try:
         if sender.book is not None:
-            sender.book.mark()
+            sender.book.begin()
         for weight in weights(sender):
             print(sender.say(weight), weight.decode(), flush=True)
             if sender.book is not None:

@@ -33,25 +33,14 @@ def restart(place: Place, text: str, times: int, **settings: object) -> float:
     return longest
 
 
-def without_reported(packs: list[dict[str, str]], reported: str) -> list[str]:
-    """The weights of packs, without those that stand again and that the sender reported: on a
-    machine so slow that it left a connection before the acknowledgement came."""
-    stands: list[str] = []
-    for pack in packs:
-        if not (stands and stands[-1] == pack["gross"] and f" {pack['gross']} was said" in reported):
-            stands.append(pack["gross"])
-    return stands
-
-
-def compare(place: Place, given: list[list[str]], reported: tuple[str, ...] = ()) -> int:
-    """Each weight of each lane stands once, in order, and counts; or it was reported by a sender.
-    How many packs there are."""
+def compare(place: Place, given: list[list[str]]) -> int:
+    """Each weight of each lane stands once, in order, and counts. How many packs there are."""
     packs = place.packs()
     for lane, wanted in enumerate(given, 1):
         own = [pack for pack in packs if pack["lane"] == str(lane)]
         odd = [pack for pack in own if (pack["signal"], pack["pile"]) != ("pass", "passed")]
         need(not odd, f"lane {lane} has packs that don't count: {odd[:3]}")
-        stands = without_reported(own, reported[lane - 1] if reported else "")
+        stands = [pack["gross"] for pack in own]
         need(stands == [grams(weight) for weight in wanted], difference(lane, stands, wanted))
     return len(packs)
 
@@ -95,7 +84,8 @@ def restarts_over_pipes(place: Place, times: int) -> None:
 
 
 def restarts_over_ports(place: Place, times: int) -> None:
-    """Scales over ports, the second behind a tunnel that holds its connection."""
+    """Scales over ports, the second behind a tunnel that holds its connection, so that its sender
+    asks the book."""
     place.script("")
     text = plan_of(["A", "B"])
     for lane in range(1, LANES + 1):
@@ -103,8 +93,9 @@ def restarts_over_ports(place: Place, times: int) -> None:
     remote = place.port + 4
     tunnel = Tunnel(remote + 1)
     given = [weights(lane, times * PACKS) for lane in range(1, LANES + 1)]
-    scales = [NetworkScale(place.folder, lane, port, given[lane - 1], EVERY)
-              for lane, port in ((1, remote), (2, tunnel.port))]  # fmt: skip
+    book = ("--book", f"http://127.0.0.1:{place.port}", "--lane", "2")
+    scales = [NetworkScale(place.folder, lane, port, given[lane - 1], EVERY, words)
+              for lane, port, words in ((1, remote, ()), (2, tunnel.port, book))]  # fmt: skip
     readers = [os.open(f"{place.run}/gate-{lane}.txt", os.O_RDWR | os.O_NONBLOCK)
                for lane in range(1, LANES + 1)]  # fmt: skip
     for scale in scales:
@@ -116,7 +107,7 @@ def restarts_over_ports(place: Place, times: int) -> None:
         need(status == 0, f"a sender ends with {status}: {scale.complaints()}")
     status, _ = last.stop()
     need(status == 0, f"the last end has status {status}: {last.errors()}")
-    count = compare(place, given, tuple(scale.complaints() for scale in scales))
+    count = compare(place, given)
     for scale in scales:
         need(scale.acknowledged() == [grams(weight) for weight in scale.given],
              "each weight was acknowledged once, in order")  # fmt: skip
