@@ -32,7 +32,8 @@ addWords({
     "{batch}: {state}, {population} Packungen, die zählen."],
   farOff: ["The book has {gross} g for this pack, and {typed} g was typed.",
     "Im Buch steht {gross} g für diese Packung, getippt ist {typed} g."],
-  tareReach: ["All packs of the product from that day on are judged anew, also those that have left.",
+  tareReach: [
+    "All packs of the product from that day on are judged anew, also those that have left.",
     "Alle Packungen der Ware ab diesem Tag werden neu beurteilt, auch die hinausgegangenen."],
   "act.day": ["Set the day", "Tag setzen"],
   "act.product": ["New product", "Neue Ware"],
@@ -85,8 +86,8 @@ export const gross = weight("gross", 0, grams.MAX_GROSS);
 export const empty = { ...weight("empty", 0, grams.MAX_TARE), optional: true };
 const mode = { name: "mode", kind: "choice", choices: ["keep", "destroy"] };
 
-// The fields of each act, and what is looked at before it is sent. Goods by volume have acts of their
-// own, `product_ml` and `open_at`.
+// The fields of each act, and what is looked at before it is sent. Goods by volume have acts of
+// their own, `product_ml` and `open_at`.
 export const ACTS = {
   day: { fields: [{ name: "day", kind: "day" }], look: lookAtDay },
   product: { fields: [{ name: "name", kind: "name" }, weight("nominal", ...grams.NOMINAL)] },

@@ -74,7 +74,8 @@ function batchAlarm({ sheet, forecast, minutes, pack }) {
   const [, , told, why] = forecastWords(forecast, sheet);
   if (sheet.verdict) return [];
   if (forecast.kind === "held") {
-    return [["alarm", "held", say(pack ? "heldBy" : "heldBySome", { batch, pack: count(pack ?? 0) })]];
+    const by = pack ? "heldBy" : "heldBySome";
+    return [["alarm", "held", say(by, { batch, pack: count(pack ?? 0) })]];
   }
   if (forecast.kind === "fail" && forecast.fails[0] === "average" && average.each !== null) {
     return [["alarm", "warn", say("failAverage", { batch, short: mass(average.short),
@@ -111,8 +112,8 @@ function laneAlarm({ number, batch, silence, idle }) {
 
 function bookAlarm({ left, isFull }) {
   if (isFull || left === 0) return [["alarm", "reject", say("bookFull")]];
-  if (left < settings.alarms.rows) return [["warn", "clock", say("rowsLow", { left: count(left) })]];
-  return [];
+  const isLow = left < settings.alarms.rows;
+  return isLow ? [["warn", "clock", say("rowsLow", { left: count(left) })]] : [];
 }
 
 // All alarms: [how loud, sign, text], those to act on first.

@@ -94,7 +94,8 @@ export function readLanes(text) {
   const told = { lanes: [], isFull: false, left: null };
   for (const words of linesOf(text).map((line) => line.split(" "))) {
     if (words[0] === "lane" && words[2] === "batch") {
-      told.lanes.push({ number: Number(words[1]), batch: words[3], state: words.slice(4).join(" ") });
+      told.lanes.push({ number: Number(words[1]), batch: words[3],
+        state: words.slice(4).join(" ") });
     }
     if (words[0] === "book" && words[1] === "full") Object.assign(told, { isFull: true, left: 0 });
     if (words[0] === "book" && words[1] === "rows") told.left = Number(words[4]);

@@ -31,8 +31,8 @@ addWords({
     "Vorschau: die drei Prüfungen aller Packungen, wie das Urteil jetzt wäre."],
   someShown: ["Lanes are fast: about 1 of {apart} packs is drawn.",
     "Schnelle Linien: etwa 1 von {apart} Packungen ist gezeichnet."],
-  emptyBoard: ["No lane has a batch. Open a batch at a desk and give it a lane in the plan; it then "
-    + "stands here.",
+  emptyBoard: ["No lane has a batch. Open a batch at a desk and give it a lane in the plan; it "
+    + "then stands here.",
   "Keine Linie hat eine Charge. Am Platz eine Charge eröffnen und ihr im Plan eine Linie geben; "
     + "dann steht sie hier."],
   spoken: ["{lane}, {batch}: {signal}, {net} g, {rate} a minute",
@@ -233,8 +233,9 @@ function putBatch(view) {
     allowed: count(forecast.allowed) }), sheet.nonstandard, forecast.allowed);
   if (forecast.country) putCountry(part.country, forecast.country, isPlanned);
   const time = Number.isFinite(minutes) ? duration(minutes) : "–";
-  putMeter(part.packs, isSoonFull(sheet, minutes) ? "warn" : "", time, sheet.population, MOST_PACKS);
-  put(part.packs.name, say("packsOf", { count: count(sheet.population), most: count(MOST_PACKS) }));
+  const { population } = sheet;
+  putMeter(part.packs, isSoonFull(sheet, minutes) ? "warn" : "", time, population, MOST_PACKS);
+  put(part.packs.name, say("packsOf", { count: count(population), most: count(MOST_PACKS) }));
   part.packs.row.title = say("fullIn", { time });
   const { above } = forecast.average;
   const isShort = forecast.fails.includes("average") && isPlanned;

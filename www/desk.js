@@ -31,7 +31,8 @@ addWords({
     "gesperrt: Packung streichen oder Tara berichtigen"],
   "next end": ["its lanes stopped: end it", "ihre Linien stehen: beenden"],
   "next draw": ["draw the sample", "Probe ziehen"],
-  "next measure": ["measure, {measured} of {count} done", "nachwiegen, {measured} von {count} getan"],
+  "next measure": ["measure, {measured} of {count} done",
+    "nachwiegen, {measured} von {count} getan"],
   "next second": ["draw the second sample", "zweite Probe ziehen"],
   "next close": ["close it", "abschließen"],
   told: ["Told by the book", "Vom Buch gesagt"],
@@ -240,7 +241,8 @@ export async function build(section) {
   place = { pending: make("p", { className: "pending", role: "status" }), told: list("told-list"),
     tasks: list("tasks"), runs: list("plain-list"), closed: list("plain-list"),
     work: make("div", { className: "work" }), names: make("div"), listed: make("pre"),
-    said: make("p", { className: "said done", role: "status" }), day: make("p", { className: "quiet" }),
+    said: make("p", { className: "said done", role: "status" }),
+    day: make("p", { className: "quiet" }),
     runsHead: make("h3", {}, say("runs")), closedHead: make("h3", {}, say("closedLately")) };
   place.force = make("details", { className: "in-force" }, make("summary", {}, say("inForce")),
     place.listed);

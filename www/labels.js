@@ -60,7 +60,8 @@ function download(name, text) {
 function listTable(sheet, packs) {
   const byPlace = [...packs].sort((one, other) => one.lane - other.lane
     || one.number - other.number);
-  const heads = ["pack", "lane", "pickPlace", "gross", "pickNo", "pickFound"].map((key) => say(key));
+  const heads = ["pack", "lane", "pickPlace", "gross", "pickNo", "pickFound"]
+    .map((key) => say(key));
   const rows = byPlace.map(({ number, lane, place, gross, at }) => [count(number), String(lane),
     place ? count(place) : "–", grams(gross), String(at), "☐"]);
   return table(say("pickTitle", { batch: sheet.batch, count: packs.length }), heads, rows,

@@ -133,7 +133,8 @@ function putSignal() {
   const late = Date.now() - office.link.at;
   const pack = state.packs.at(-1);
   if (office.link.at && late > LATE) {
-    return draw("offline", "warn", say("OFFLINE"), ["", say("offline", { time: ago(late / 1000) })]);
+    return draw("offline", "warn", say("OFFLINE"),
+      ["", say("offline", { time: ago(late / 1000) })]);
   }
   if (!state.rows) return undefined;
   if (!state.batch) {

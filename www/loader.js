@@ -27,7 +27,8 @@ export class BatchPage {
     this.field = make("input", { id, required: true, list: `${id}-names`, autocomplete: "off" });
     this.names = make("datalist", { id: `${id}-names` });
     this.said = make("p", { role: "status", className: "quiet read-so-far" });
-    this.stopper = make("button", { type: "button", className: "second", hidden: true }, say("stop"));
+    this.stopper = make("button", { type: "button", className: "second", hidden: true },
+      say("stop"));
     this.stopper.addEventListener("click", () => { this.isStopped = true; });
     this.place = make("div", { className: "result" });
     const form = make("form", { className: "chooser" }, make("label", { for: id }, say("batch")),
@@ -36,7 +37,8 @@ export class BatchPage {
       event.preventDefault();
       location.hash = `#${this.name}/${this.field.value.trim()}`;
     });
-    section.append(make("h1", { className: "unseen" }, say(this.name)), form, this.said, this.place);
+    section.append(make("h1", { className: "unseen" }, say(this.name)), form, this.said,
+      this.place);
   }
 
   async show(batch) {

@@ -1,6 +1,6 @@
 // The settings of a hall, which the front serves as settings.json where there are any: names,
-// limits of alarms, prices and a rule of the country. What isn't there, or isn't as it has to be, is
-// as here; docs/OPERATING.md says what each is for.
+// limits of alarms, prices and a rule of the country. What isn't there, or isn't as it has to be,
+// is as here; docs/OPERATING.md says what each is for.
 
 import { reach } from "./office.js";
 

@@ -70,7 +70,8 @@ function open(dialog, pack) {
   go.addEventListener("click", async () => {
     go.disabled = true;
     put(said, say("underWay"));
-    const entry = await outcome(myDesk(), give(myDesk(), { act: "void", pack: pack.number, reason }));
+    const mark = give(myDesk(), { act: "void", pack: pack.number, reason });
+    const entry = await outcome(myDesk(), mark);
     said.className = `said ${entry.found.done ? "done" : "refused"}`;
     put(said, outcomeWords(entry));
     put(back, say("back"));
