@@ -4,7 +4,7 @@
 import { addWords, say } from "./words.js";
 import { ago, count, duration, grams, mass } from "./numbers.js";
 import { icon, make, put } from "./page.js";
-import { laneName, settings } from "./settings.js";
+import { laneWords, settings } from "./settings.js";
 import { forecastWords } from "./forecastwords.js";
 import { sound } from "./sound.js";
 
@@ -62,11 +62,6 @@ export function idleWords(state) {
   const words = told.startsWith("state ") ? first : told;
   return rest.length ? `${words} (${rest.join(" ")})` : words;
 }
-
-export const laneWords = (number) => {
-  const name = laneName(number);
-  return say("laneOf", { lane: number }) + (name ? ` ${name}` : "");
-};
 
 function batchAlarm({ sheet, forecast, minutes, pack }) {
   const { batch } = sheet;

@@ -2,7 +2,7 @@
 // its own; every other act behind one menu with a search; what the book answered.
 
 import * as office from "./office.js";
-import { ACTS, actWords, makeForm, nameLists, pendingWords, toldActs } from "./acts.js";
+import { ACT_NAMES, actWords, nameLists, pendingWords, toldActs } from "./acts.js";
 import { addListed, names } from "./names.js";
 import { addWords, say, word } from "./words.js";
 import { count, day, quantity } from "./numbers.js";
@@ -10,10 +10,7 @@ import { deskChoice, onDesk } from "./mydesk.js";
 import { icon, loadStyles, make, put, redraw } from "./page.js";
 import { isTask, nextOf } from "./tasks.js";
 import { partOf, stepList, stepPanel } from "./steps.js";
-import { allLanes } from "./follow.js";
 import { onChange } from "./requests.js";
-import { openMeasuring } from "./measuring.js";
-import { openPickList } from "./labels.js";
 import { outcomeWords } from "./refusals.js";
 
 addWords({
@@ -61,7 +58,7 @@ function batchNames() {
 }
 
 async function askAll() {
-  const lanes = await allLanes();
+  const lanes = await office.allLanes();
   state.onLane = new Set(lanes.map(({ batch }) => batch).filter((batch) => batch));
   const wanted = batchNames();
   if (state.batch && !wanted.includes(state.batch)) wanted.push(state.batch);
@@ -129,7 +126,13 @@ async function told() {
   putWork(true);
 }
 
-async function openMode(sheet, name, open) {
+// What is loaded when a mode is opened.
+const MODES = {
+  measure: () => import("./measuring.js"),
+  pick: () => import("./labels.js"),
+};
+
+async function openMode(sheet, name) {
   state.mode = name;
   const leave = () => {
     state.mode = "";
@@ -137,7 +140,7 @@ async function openMode(sheet, name, open) {
   };
   const mode = make("div");
   place.work.replaceChildren(titleOf(sheet), stepList("measure"), mode);
-  await office.following(() => open(mode, sheet, leave));
+  await office.following(async () => (await MODES[name]()).open(mode, sheet, leave));
 }
 
 function putWork(isAnew = false) {
@@ -155,15 +158,17 @@ function putWork(isAnew = false) {
     return;
   }
   const acts = { told, openAct,
-    measure: () => openMode(sheet, "measure", openMeasuring),
-    pick: () => openMode(sheet, "pick", openPickList) };
+    measure: () => openMode(sheet, "measure"), pick: () => openMode(sheet, "pick") };
   place.work.replaceChildren(titleOf(sheet), stepList(nextFor(sheet)),
     stepPanel(sheet, state.onLane.has(sheet.batch), acts));
 }
 
-function openAct(name, values = {}) {
-  state.mode = `act ${name}`;
+async function openAct(name, values = {}) {
+  const mode = `act ${name}`;
+  state.mode = mode;
   place.desk.classList.add("has-work");
+  const { ACTS, makeForm } = await import("./forms.js");
+  if (state.mode !== mode) return;
   const form = makeForm(name, ACTS[name], `act-${name}`, () => {
     office.following(askAll).then(putLists);
     putNames();
@@ -182,7 +187,7 @@ function openAct(name, values = {}) {
 function buildMenu() {
   const search = make("input", { id: "find-act", type: "search", autocomplete: "off" });
   const none = make("p", { className: "quiet", hidden: true }, say("noAct"));
-  const lines = Object.keys(ACTS).map((name) => {
+  const lines = ACT_NAMES.map((name) => {
     const button = make("button", { type: "button", className: "second", id: `open-${name}` },
       say(`act.${name}`));
     button.addEventListener("click", () => openAct(name));

@@ -7,7 +7,6 @@ import { addWords, say } from "./words.js";
 import { atRows, settledPacks } from "./follow.js";
 import { make, put } from "./page.js";
 import { count } from "./numbers.js";
-import { refusal } from "./refusals.js";
 
 addWords({
   reading: ["{found} of {all} packs read, at row {row}",
@@ -73,6 +72,7 @@ export class BatchPage {
     const sheet = await office.sheet(batch);
     this.rows = rows;
     if (sheet.refused) {
+      const { refusal } = await import("./refusals.js");
       put(this.said, refusal(sheet.refused, sheet.kept));
       this.place.replaceChildren();
       return;

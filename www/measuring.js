@@ -314,7 +314,7 @@ class Measuring {
 }
 
 // Opens the mode in a place; `leave` is called where it ends.
-export async function openMeasuring(place, sheet, leave) {
+export async function open(place, sheet, leave) {
   const task = await taskOf(sheet);
   await askTares(task);
   const mode = new Measuring(task, leave);

@@ -13,7 +13,7 @@ import { BatchPage } from "./loader.js";
 import { drawChart } from "./chart.js";
 import { failsOf } from "./forecast.js";
 import { measuredOf } from "./measured.js";
-import { readPaper } from "./answers.js";
+import { readPaper } from "./paper.js";
 import { samplesMeasured, samplesOfPaper, tareOf, testOf } from "./reference.js";
 import { tareChanges } from "./control.js";
 

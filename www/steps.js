@@ -71,6 +71,7 @@ addWords({
   defectsNow: ["Defective in the sample", "Fehlerhaft in der Probe"],
   c1r1: ["{d1}, c1 = {c1}, r1 = {r1}", "{d1}, c1 = {c1}, r1 = {r1}"],
   c2r2: ["{both}, c2 = {c2}, r2 = {r2}", "{both}, c2 = {c2}, r2 = {r2}"],
+  pickList: ["Pick list", "Suchliste"],
   toSheet: ["Sheet", "Blatt"],
   toChart: ["Chart", "Karte"],
 });
