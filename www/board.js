@@ -274,8 +274,8 @@ function putSpark(part) {
   spark(part.spark, shown.slice(-LAST_PACKS), part.limits, ...part.size);
 }
 
-// How many of the packs that are shown were rejected, and why the newest of them: it stays to be seen
-// when a later pack has passed. Gives back the same in a sentence.
+// How many of the packs that are shown were rejected, and why the newest of them: that stays to be
+// seen when a later pack has passed. Gives back the same in a sentence.
 function putOuts(part, lane) {
   const shown = lane.packs.map((number) => packs.get(number)).filter((pack) => pack);
   const outs = shown.filter(({ signal }) => signal !== "pass");

@@ -32,6 +32,8 @@ addWords({
     "nachwiegen, {measured} von {count} getan"],
   "next second": ["draw the second sample", "zweite Probe ziehen"],
   "next close": ["close it", "abschließen"],
+  noForm: ["No answer: the form can't be shown now.",
+    "Keine Antwort: das Formular kann jetzt nicht gezeigt werden."],
   told: ["Told by the book", "Vom Buch gesagt"],
   bookDay: ["Day of the book: {day}", "Tag des Buchs: {day}"],
   inForce: ["What is in force", "Was gilt"],
@@ -163,12 +165,20 @@ function putWork(isAnew = false) {
     stepPanel(sheet, state.onLane.has(sheet.batch), acts));
 }
 
+const loadForms = () => import("./forms.js").catch(() => null);
+
 async function openAct(name, values = {}) {
   const mode = `act ${name}`;
   state.mode = mode;
   place.desk.classList.add("has-work");
-  const { ACTS, makeForm } = await import("./forms.js");
+  const forms = await loadForms();
   if (state.mode !== mode) return;
+  if (!forms) {
+    state.mode = "";
+    put(place.said, say("noForm"));
+    return;
+  }
+  const { ACTS, makeForm } = forms;
   const form = makeForm(name, ACTS[name], `act-${name}`, () => {
     office.following(askAll).then(putLists);
     putNames();
@@ -260,6 +270,10 @@ export async function build(section) {
     make("aside", { className: "told", "aria-label": say("told") }, make("h2", {}, say("told")),
       place.told, place.force));
   section.append(place.desk, place.names);
+  // the forms are there before the first one is opened, also where the link breaks by then
+  for (const sign of ["focusin", "pointerover"]) {
+    place.desk.addEventListener(sign, loadForms, { once: true });
+  }
   onChange(putTold);
   onDesk(putTold);
   putTold();
