@@ -144,14 +144,20 @@ class Browser:
         choice.send_keys(str(desk))
         need(choice.get_attribute("value") == str(desk), f"desk {desk} isn't chosen by its keys")
 
-    def act(self, kind, twice=False, **values):
-        """Fills the form of an act and enters it; says what is told."""
+    def open_form(self, kind):
+        """Opens the form of an act by the search of the menu, where it isn't open; says its place."""
         form = f"#act-{kind}"
         self.find("#find-act")
         if not self.run("return document.querySelector(arguments[0])", form):
             self.fill("#find-act", kind)
             self.find("#find-act").send_keys(Keys.ENTER)
             self.fill("#find-act", "")
+            self.find(form)
+        return form
+
+    def act(self, kind, twice=False, **values):
+        """Fills the form of an act and enters it; says what is told."""
+        form = self.open_form(kind)
         for field, value in values.items():
             self.fill(f"{form} [name={field}]", value)
         self.run("document.querySelector(arguments[0]).textContent = ''", f"{form} output")

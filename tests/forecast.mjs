@@ -3,7 +3,8 @@
 //
 // usage: node forecast.mjs < CASES        in a folder with the modules of www/
 
-import { readPaper, readSheet } from "./answers.js";
+import { readPaper } from "./paper.js";
+import { readSheet } from "./answers.js";
 import { contentsCheck, defectsOf } from "./sample.js";
 import { limitsOf } from "./rules.js";
 import { forecastOf } from "./forecast.js";

@@ -97,7 +97,7 @@ class Front:
 
     def __init__(self, people):
         shutil.copytree(f"{TOP}/www", "/usr/share/hall/www")
-        for name in ("desks.js", "site.conf"):
+        for name in ("desks.js", "pages.js", "site.conf"):
             shutil.copy(f"{TOP}/deploy/{name}", f"/usr/share/hall/{name}")
         os.makedirs(SHOWN)
         self.passwords = {}

@@ -7,10 +7,19 @@ import sys
 
 from front_room import mount_room
 from screen_day import run_day
-from screen_pages import run_pages
+from screen_load import run_load
+from screen_pages import run_boards, run_pages
 from screen_signs import run_signs
+from screen_sizes import run_sizes
 
-PARTS = {"day": run_day, "signs": run_signs, "pages": run_pages}
+PARTS = {
+    "day": run_day,
+    "signs": run_signs,
+    "pages": run_pages,
+    "boards": run_boards,
+    "sizes": run_sizes,
+    "load": run_load,
+}
 
 
 def main() -> None:

@@ -5,14 +5,17 @@
 #           links, a full disk, two desks and two pages: each act is a row of the book
 #   signs   what the pages say: forecasts, alarms, their sound, lanes, settings, a full book, what
 #           stores hold that isn't theirs
-#   pages   each page at five sizes, light and dark, in both languages, with 1, 4 and 16 lanes and
-#           long names: no text cut or overlapping, contrast, labels and roles, no layout shift, size
+#   pages   each page at five sizes, light and dark, in both languages, with four lanes and long
+#           names: no text cut or overlapping, contrast, labels and roles
+#   boards  the same for boards of 1 and 16 lanes, all names of 32 letters
+#   sizes   bytes that each page loads, what the key Tab comes by, no layout shift as packs come
+#   load    the board with 16 lanes at 20 packs a second each, an hour of it, 10 000 packs drawn
 #
 # usage: tests/screen.sh [PICTURES [PART..]]    HALL names the program; screenshots are left in
 #                                               PICTURES; without a PART all are done
 # needs: root, and of Debian: nginx libnginx-mod-http-js chromium chromium-driver python3-selenium
-#        poppler-utils iproute2 openssl util-linux curl; what is missing is installed. A part is done
-#        in 5 minutes, at most 30; each in mounts and a network of its own.
+#        poppler-utils iproute2 openssl util-linux curl; what is missing is installed. A part is
+#        done in 5 minutes, at most 30; each in mounts and a network of its own.
 set -eu
 cd "$(dirname "$0")/.."
 . tests/need.sh
@@ -30,7 +33,7 @@ fi
 mkdir -p "$pictures"
 pictures=$(realpath "$pictures")
 chmod 755 "$room"
-[ $# -gt 0 ] || set -- day signs pages
+[ $# -gt 0 ] || set -- day signs pages boards sizes load
 for part; do
     mkdir "$room/$part"
     # the Python for which Debian's selenium is

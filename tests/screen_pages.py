@@ -1,5 +1,5 @@
-"""Each page at five sizes, light and dark, in both languages, with 1, 4 and 16 lanes and long names:
-what tests/screen_checks.js looks for, layout shift and size. A part of tests/screen.py."""
+"""Each page at five sizes, light and dark, in both languages, with 1, 4 and 16 lanes and long
+names: what tests/screen_checks.js looks for. Parts of tests/screen.py."""
 
 import os
 import time
@@ -9,10 +9,13 @@ from front_room import SHOWN, run, wait_until
 from screen_room import Room, good, grams, opening, weighing
 
 SIZES = [(1920, 1080), (1280, 800), (1024, 768), (768, 1024), (390, 844)]
-SCHEMES = ["light", "dark"]
 LANGUAGES = ["en", "de"]
-# Bytes that a page may load in all, and as the front sends them.
-PAGE_BYTES, SENT_BYTES = 100_000, 35_000
+# Which sizes are looked at in which scheme: over both languages each size stands in light and dark,
+# and each language in each size and each scheme.
+VIEWS = {
+    "en": {"light": [0, 2, 4], "dark": [1, 3]},
+    "de": {"light": [1, 3], "dark": [0, 2, 4]},
+}
 # Names of 32 letters, the widest that are usual.
 LONG = "WEIHNACHTSMISCHUNG-2026-12-01-AB"
 LONG_PRODUCT = "MUESLI-MIT-NUESSEN-UND-OBST-0250"
@@ -40,51 +43,28 @@ class Faults:
         return self.checked
 
 
-def look(browser, where, faults, pictures, each=False):
-    """Every size and scheme of the page that is shown."""
+def look(browser, name, language, faults, pictures):
+    """The page that is shown, in the sizes and schemes of a language; a picture of each."""
     with open(CHECKS, encoding="utf-8") as source:
         browser.run(source.read())
-    for scheme in SCHEMES:
+    for scheme, sizes in VIEWS[language].items():
         browser.driver.execute_cdp_cmd("Emulation.setEmulatedMedia", {
             "features": [{"name": "prefers-color-scheme", "value": scheme}]})
-        for width, height in SIZES:
+        for width, height in (SIZES[at] for at in sizes):
             browser.view(width, height)
             # two frames, so that what is drawn by its size is drawn
             browser.driver.execute_async_script(
                 "requestAnimationFrame(() => requestAnimationFrame(arguments[0]))")
             time.sleep(0.15)
-            found = browser.run("return hallChecks.all()")
-            faults.add(f"{where} {width} x {height} {scheme}", found)
-            if found or each or (width, scheme) in ((1280, "light"), (390, "dark")):
-                browser.picture(f"{pictures}/{where.replace(' ', '_')}_{width}_{scheme}.png")
+            where = f"{name} {language} {width} x {height} {scheme}"
+            faults.add(where, browser.run("return hallChecks.all()"))
+            browser.picture(f"{pictures}/{name.replace(' ', '_')}_{language}_{width}_{scheme}.png")
     browser.view(1280, 800)
 
 
 def set_language(browser, language):
     browser.run(f"localStorage['hall.lang'] = '{language}'")
     browser.reload()
-
-
-def shifts(browser, since):
-    """How far parts of a page were moved by others since a moment, as the browser measures it."""
-    return browser.driver.execute_async_script("""
-        const [since, tell] = arguments;
-        const found = [];
-        new PerformanceObserver((list) => found.push(...list.getEntries()))
-            .observe({ type: "layout-shift", buffered: true });
-        setTimeout(() => tell(found.filter((one) => one.startTime > since)
-            .map((one) => [one.value, ...one.sources.map(({ node }) =>
-                `${node?.nodeName} ${node?.className ?? ""} ${node?.textContent?.slice(0, 40)}`)])),
-            500)""", since)
-
-
-def stays(browser, seconds, where):
-    """While packs come nothing on the page is moved."""
-    since = browser.run("return performance.now()")
-    time.sleep(seconds)
-    moved = shifts(browser, since)
-    need(not moved, f"{where}: moved by other parts: {moved}")
-    print(f"screen: {where}: layout shift 0 in {seconds} s", flush=True)
 
 
 # ---- the books
@@ -140,8 +120,8 @@ def endless(draw, pause=0.4):
 
 def open_page(browser, page, selector):
     browser.open(page)
-    wait_until(lambda: browser.run("return Boolean(document.querySelector(arguments[0]))", selector),
-               f"{selector} on {page}", 240)
+    there = "return Boolean(document.querySelector(arguments[0]))"
+    wait_until(lambda: browser.run(there, selector), f"{selector} on {page}", 240)
     time.sleep(0.5)
 
 
@@ -153,7 +133,8 @@ PAGES = [
     ("desk", "#desk .task", "desk"), ("desk/RICE-1130-C", "#desk .step.draw", "desk draw"),
     ("desk/RICE-1130-D", "#desk .step.measure", "desk measure"),
     (f"desk/{LONG}", "#desk .step.held", "desk held"),
-    ("sheet/RICE-1130-E", "#sheet .paper", "sheet"), (f"sheet/{LONG}", "#sheet .paper", "sheet open"),
+    ("sheet/RICE-1130-E", "#sheet .paper", "sheet"),
+    (f"sheet/{LONG}", "#sheet .paper", "sheet open"),
     ("reports", "#reports .notice", "reports"), ("evidence", "#evidence .notice", "evidence"),
     ("search", "#search .notice", "search"),
 ]
@@ -165,7 +146,7 @@ def look_at_pages(room, faults):
         set_language(browser, language)
         for page, selector, name in PAGES:
             open_page(browser, page, selector)
-            look(browser, f"{name} {language}", faults, room.pictures)
+            look(browser, name, language, faults, room.pictures)
         look_at_modes(room, browser, language, faults)
         print(f"screen: pages looked at in {language}", flush=True)
     return browser
@@ -179,75 +160,17 @@ def look_at_modes(room, browser, language, faults):
     browser.find(".go-measure").click()
     browser.find("#m-gross").send_keys("26,2\n")
     wait_until(lambda: browser.text(".m-far"), "a far weight is asked twice", 60)
-    look(browser, f"measuring {language}", faults, room.pictures)
+    look(browser, "measuring", language, faults, room.pictures)
     browser.find(".measuring button.second").click()
     browser.find("#open-product").click()
     browser.find("#act-product [name=nominal]").send_keys("4.9\n")
-    look(browser, f"act {language}", faults, room.pictures)
+    look(browser, "act", language, faults, room.pictures)
     browser.open("lane/1")
     wait_until(lambda: not browser.find(".st-void").get_attribute("disabled"), "a pack to void", 60)
     browser.find(".st-void").click()
     browser.find("dialog .picks input").click()
-    look(browser, f"void {language}", faults, room.pictures)
+    look(browser, "void", language, faults, room.pictures)
     browser.find("dialog .ends .second").click()
-
-
-def check_stays(room, browser):
-    set_language(browser, "en")
-    for page, selector, size in (("board", "#board .strip", (1920, 1080)),
-                                 ("lane/1", "#lane .st-signal", (1024, 768)),
-                                 ("desk", "#desk .task", (1280, 800))):
-        browser.view(*size)
-        open_page(browser, page, selector)
-        # what a page first shows may still grow: nets of the last minutes, a rate after 10 s
-        time.sleep(14)
-        stays(browser, 8, page)
-
-
-def check_size(browser):
-    """Each page loads itself alone, from here alone, and is small."""
-    for page, selector in (("board", "#board .strip"), ("lane/1", "#lane .st-signal"),
-                           ("batch/RICE-1201-A", "#batch svg.figure"), ("desk", "#desk .task"),
-                           ("sheet/RICE-1130-E", "#sheet .paper"), ("search", "#search .notice")):
-        browser.driver.get("about:blank")
-        open_page(browser, page, selector)
-        if page == "desk":
-            browser.open("desk/RICE-1130-D")
-            browser.find(".go-measure").click()
-            browser.find("#m-gross")
-        size, sent, elsewhere = browser.run("""
-            const all = performance.getEntriesByType("resource")
-                .concat(performance.getEntriesByType("navigation"));
-            const asked = /\\/hall\\/|\\/papers\\/|(list|lanes)\\.txt|settings\\.json/;
-            const own = all.filter((one) => !asked.test(one.name));
-            const sum = (key) => own.reduce((total, one) => total + one[key], 0);
-            return [sum("decodedBodySize"), sum("encodedBodySize"),
-                all.filter((one) => !one.name.startsWith(location.origin)).map((one) => one.name)]""")
-        need(10_000 < size <= PAGE_BYTES and sent <= SENT_BYTES and not elsewhere,
-             f"the page {page} loads {size} bytes, {sent} as sent, of elsewhere {elsewhere}")
-        print(f"screen: the page {page.split('/')[0]} loads {size} bytes, {sent} as sent",
-              flush=True)
-
-
-def check_keyboard(browser):
-    """The key Tab comes by everything that can be used, on each page."""
-    from selenium.webdriver.common.action_chains import ActionChains
-    from selenium.webdriver.common.keys import Keys
-    for page, selector in (("board", "#board .strip"), ("desk/RICE-1130-C", "#desk .step.draw"),
-                           ("batch/RICE-1201-A", "#batch svg.figure"),
-                           ("sheet/RICE-1130-E", "#sheet .paper"), ("lane/1", "#lane .st-signal")):
-        open_page(browser, page, selector)
-        browser.run("document.activeElement.blur()")
-        visited = set()
-        for _ in range(60):
-            ActionChains(browser.driver).send_keys(Keys.TAB).perform()
-            visited.add(browser.run("return document.activeElement.outerHTML.slice(0, 90)"))
-        left = browser.run("""return [...document.querySelectorAll(
-            "a, input, select, button, summary")].filter((one) => one.checkVisibility()
-            && !one.disabled && !one.classList.contains("skip")
-            && !(one.type === "radio" && !one.checked)).map((one) => one.outerHTML.slice(0, 90))""")
-        need(set(left) <= visited, f"on {page} Tab doesn't come by {set(left) - visited}")
-    print("screen: the key Tab comes by everything that can be used", flush=True)
 
 
 def look_at_boards(room, faults):
@@ -268,27 +191,32 @@ def look_at_boards(room, faults):
             wait_until(lambda: browser.run(
                 "return document.querySelectorAll('#board .w-lane').length") == lanes,
                 f"{lanes} lanes", 60)
-            look(browser, f"board of {lanes} lanes {language}", faults, room.pictures)
+            look(browser, f"board of {lanes} lanes", language, faults, room.pictures)
         browser.close()
         room.browsers.remove(browser)
         print(f"screen: a board of {lanes} lanes looked at", flush=True)
 
 
-def run_pages(program, folder, pictures):
+def make_room(program, folder, pictures):
+    """Four lanes that weigh on, and batches at each step."""
     room = Room(program, folder, pictures, SETTINGS)
-    faults = Faults()
     close_last(room, room.fill("\n".join(fill_four(room)) + "\n"))
     room.weigh(["RICE-1201-A", "SALT-1201-B", LONG, "RICE-1201-A"],
                [endless(room.draw) for _ in range(4)])
+    return room
+
+
+def run_pages(program, folder, pictures):
+    room, faults = make_room(program, folder, pictures), Faults()
     browser = look_at_pages(room, faults)
-    check_size(browser)
-    check_keyboard(browser)
-    check_stays(room, browser)
     complaints = browser.complaints()
-    look_at_boards(room, faults)
-    checked = faults.tell()
-    need(not complaints, f"the browser complains: {complaints}")
     room.end()
-    print(f"screen: {checked} views of the pages, no fault", flush=True)
+    print(f"screen: {faults.tell()} views of the pages, no fault", flush=True)
+    need(not complaints, f"the browser complains: {complaints}")
 
 
+def run_boards(program, folder, pictures):
+    room, faults = Room(program, folder, pictures, SETTINGS), Faults()
+    look_at_boards(room, faults)
+    room.end()
+    print(f"screen: {faults.tell()} views of the boards, no fault", flush=True)

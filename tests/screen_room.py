@@ -8,7 +8,7 @@ import time
 
 from browser import Browser
 from clients import Lane
-from front_room import Front, make_hall, run, wait_until
+from front_room import Front, make_hall, run
 from rows import rows_behind
 
 PEOPLE = {"anna": [101], "ben": [102], "carl": [103], "wall": []}

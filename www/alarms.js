@@ -4,7 +4,7 @@
 import { addWords, say } from "./words.js";
 import { ago, count, duration, grams, mass } from "./numbers.js";
 import { icon, make, put } from "./page.js";
-import { laneName, settings } from "./settings.js";
+import { laneWords, settings } from "./settings.js";
 import { forecastWords } from "./forecastwords.js";
 import { sound } from "./sound.js";
 
@@ -63,18 +63,14 @@ export function idleWords(state) {
   return rest.length ? `${words} (${rest.join(" ")})` : words;
 }
 
-export const laneWords = (number) => {
-  const name = laneName(number);
-  return say("laneOf", { lane: number }) + (name ? ` ${name}` : "");
-};
-
 function batchAlarm({ sheet, forecast, minutes, pack }) {
   const { batch } = sheet;
   const { average } = forecast;
   const [, , told, why] = forecastWords(forecast, sheet);
   if (sheet.verdict) return [];
   if (forecast.kind === "held") {
-    return [["alarm", "held", say(pack ? "heldBy" : "heldBySome", { batch, pack: count(pack ?? 0) })]];
+    const by = pack ? "heldBy" : "heldBySome";
+    return [["alarm", "held", say(by, { batch, pack: count(pack ?? 0) })]];
   }
   if (forecast.kind === "fail" && forecast.fails[0] === "average" && average.each !== null) {
     return [["alarm", "warn", say("failAverage", { batch, short: mass(average.short),
@@ -111,8 +107,8 @@ function laneAlarm({ number, batch, silence, idle }) {
 
 function bookAlarm({ left, isFull }) {
   if (isFull || left === 0) return [["alarm", "reject", say("bookFull")]];
-  if (left < settings.alarms.rows) return [["warn", "clock", say("rowsLow", { left: count(left) })]];
-  return [];
+  const isLow = left < settings.alarms.rows;
+  return isLow ? [["warn", "clock", say("rowsLow", { left: count(left) })]] : [];
 }
 
 // All alarms: [how loud, sign, text], those to act on first.

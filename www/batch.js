@@ -52,8 +52,9 @@ addWords({
   outWhere: ["First at pack {from}, last at pack {to} of the batch.",
     "Zuerst bei Packung {from}, zuletzt bei Packung {to} der Charge."],
   noPacksText: ["No pack of this batch was weighed yet. Give it a lane; the chart then begins by "
-    + "itself.", "Von dieser Charge ist noch keine Packung gewogen. Ihr eine Linie geben; die Karte "
-    + "beginnt dann von selbst."],
+    + "itself.",
+  "Von dieser Charge ist noch keine Packung gewogen. Ihr eine Linie geben; die Karte beginnt dann "
+    + "von selbst."],
   meanOf: ["mean of 30", "Mittel von 30"],
   beyond: ["beyond the chart", "außerhalb der Karte"],
   tareChange: ["another tare", "andere Tara"],
@@ -83,7 +84,8 @@ function headFacts(sheet, packs) {
   const { mean, s } = meanAndS(packs.filter(isCounted).map(({ net }) => net));
   const figure = (value, spelled) => (sheet.population ? spelled(value) : "–");
   return facts([
-    [say("counted"), count(sheet.population), say("weighed", { count: count(sheet.piles.readings) })],
+    [say("counted"), count(sheet.population),
+      say("weighed", { count: count(sheet.piles.readings) })],
     [say("meanS"), figure(mean, (value) => `${grams(value, 2)} · ${grams(s, 2)} g`),
       `T1 ${grams(limits.t1, 1)} · T2 ${grams(limits.t2, 1)} g`],
     [say("light"), say("ofAllowed", { used: count(sheet.nonstandard),
@@ -151,7 +153,8 @@ class Cursor {
       const { chart, view: [from, to] } = this;
       const x = event.clientX - this.place.getBoundingClientRect().left;
       if (!chart || x < chart.left || x > chart.right) return;
-      this.move(Math.round(from + (x - chart.left) / (chart.right - chart.left) * (to - from) - .5));
+      const share = (x - chart.left) / (chart.right - chart.left);
+      this.move(Math.round(from + share * (to - from) - .5));
     });
     this.range.addEventListener("input", () => this.move(Number(this.range.value)));
     this.range.addEventListener("keydown", (event) => {
@@ -209,7 +212,8 @@ class Cursor {
     const { parts, groups, chart } = this;
     const group = groups.groups.find(({ last }) => last >= this.at) ?? groups.groups.at(-1);
     put(parts.pack.value, count(pack.number));
-    put(parts.pack.more, say("packOf", { place: count(this.at + 1), count: count(this.packs.length) }));
+    put(parts.pack.more, say("packOf", { place: count(this.at + 1),
+      count: count(this.packs.length) }));
     put(parts.net.value, grams(pack.net));
     put(parts.net.more, grams(pack.net - limitsOf(this.sheet).nominal, 3, true));
     parts.signal.value.replaceChildren(signalTag(pack.signal));

@@ -3,8 +3,8 @@
 // anew, so that nothing moves.
 
 import { addWords, say, word } from "./words.js";
-import { AlarmBar, alarmsOf, idleWords, isNear, isSoonFull, laneWords } from "./alarms.js";
-import { Hall, LAST_PACKS, packAt, packs } from "./follow.js";
+import { AlarmBar, alarmsOf, idleWords, isNear, isSoonFull } from "./alarms.js";
+import { Hall, LAST_PACKS } from "./lanes.js";
 import { MOST_PACKS, MOST_ROWS, limitsOf } from "./rules.js";
 import { count, duration, grams, quantity } from "./numbers.js";
 import { icon, loadStyles, make, meter, put, shape, whenSized } from "./page.js";
@@ -13,7 +13,8 @@ import { lanes as askPlan, list as askList } from "./office.js";
 import { addNames } from "./names.js";
 import { forecastOf } from "./forecast.js";
 import { forecastWords } from "./forecastwords.js";
-import { settings } from "./settings.js";
+import { laneWords, settings } from "./settings.js";
+import { packAt, packs } from "./follow.js";
 import { spark } from "./spark.js";
 
 addWords({
@@ -31,12 +32,15 @@ addWords({
     "Vorschau: die drei Prüfungen aller Packungen, wie das Urteil jetzt wäre."],
   someShown: ["Lanes are fast: about 1 of {apart} packs is drawn.",
     "Schnelle Linien: etwa 1 von {apart} Packungen ist gezeichnet."],
-  emptyBoard: ["No lane has a batch. Open a batch at a desk and give it a lane in the plan; it then "
-    + "stands here.",
+  emptyBoard: ["No lane has a batch. Open a batch at a desk and give it a lane in the plan; it "
+    + "then stands here.",
   "Keine Linie hat eine Charge. Am Platz eine Charge eröffnen und ihr im Plan eine Linie geben; "
     + "dann steht sie hier."],
-  spoken: ["{lane}, {batch}: {signal}, {net} g, {rate} a minute",
-    "{lane}, {batch}: {signal}, {net} g, {rate} je Minute"],
+  spoken: ["{lane}, {batch}: {signal}, {net} g, {rate} a minute. {out}",
+    "{lane}, {batch}: {signal}, {net} g, {rate} je Minute. {out}"],
+  outOf: ["{count} of the last {all} rejected, the newest: {cause}",
+    "{count} der letzten {all} ausgeschleust, zuletzt: {cause}"],
+  noneOut: ["None of the last {all} rejected", "Keine der letzten {all} ausgeschleust"],
   soundOn: ["Sound is on", "Ton ist an"],
   soundOff: ["Sound is off", "Ton ist aus"],
 });
@@ -140,14 +144,17 @@ function makeStrip(sheet) {
 
 function makeLane(lane, sheet) {
   const part = { lane, limits: limitsOf(sheet), signal: make("span"), net: make("span"),
-    rate: make("strong"), spark: make("div", { className: "w-spark sized" }), drawn: "" };
+    rate: make("strong"), spark: make("div", { className: "w-spark sized" }), drawn: "",
+    out: make("span", { className: "w-out none" }), outs: make("strong"), cause: make("span") };
   part.net.className = "w-net";
+  part.out.append(icon("reject"), part.outs, part.cause);
   part.spoken = make("span", { className: "unseen" });
   part.cell = make("section", { className: "w-lane", "aria-label": laneWords(lane.number) },
     make("div", {}, part.spoken,
       make("h3", { className: "w-no", "aria-hidden": "true" }, String(lane.number)), part.signal,
       part.spark, part.net,
-      make("span", { className: "w-rate" }, part.rate, make("small", {}, ` ${say("aMinute")}`))));
+      make("span", { className: "w-rate" }, part.rate, make("small", {}, ` ${say("aMinute")}`),
+        part.out)));
   parts.lanes.set(lane.number, part);
   whenSized(part.spark, (wide, high) => {
     part.size = [wide, high];
@@ -233,8 +240,9 @@ function putBatch(view) {
     allowed: count(forecast.allowed) }), sheet.nonstandard, forecast.allowed);
   if (forecast.country) putCountry(part.country, forecast.country, isPlanned);
   const time = Number.isFinite(minutes) ? duration(minutes) : "–";
-  putMeter(part.packs, isSoonFull(sheet, minutes) ? "warn" : "", time, sheet.population, MOST_PACKS);
-  put(part.packs.name, say("packsOf", { count: count(sheet.population), most: count(MOST_PACKS) }));
+  const { population } = sheet;
+  putMeter(part.packs, isSoonFull(sheet, minutes) ? "warn" : "", time, population, MOST_PACKS);
+  put(part.packs.name, say("packsOf", { count: count(population), most: count(MOST_PACKS) }));
   part.packs.row.title = say("fullIn", { time });
   const { above } = forecast.average;
   const isShort = forecast.fails.includes("average") && isPlanned;
@@ -266,6 +274,21 @@ function putSpark(part) {
   spark(part.spark, shown.slice(-LAST_PACKS), part.limits, ...part.size);
 }
 
+// How many of the packs that are shown were rejected, and why the newest of them: that stays to be
+// seen when a later pack has passed. Gives back the same in a sentence.
+function putOuts(part, lane) {
+  const shown = lane.packs.map((number) => packs.get(number)).filter((pack) => pack);
+  const outs = shown.filter(({ signal }) => signal !== "pass");
+  const all = count(shown.length);
+  part.out.classList.toggle("none", outs.length === 0);
+  put(part.outs, count(outs.length));
+  put(part.cause, outs.length ? word(outs.at(-1).signal) : "");
+  const told = outs.length === 0 ? say("noneOut", { all })
+    : say("outOf", { all, count: count(outs.length), cause: word(outs.at(-1).signal) });
+  part.out.title = told;
+  return told;
+}
+
 function putLane(lane) {
   const part = parts.lanes.get(lane.number);
   if (!part) return;
@@ -283,7 +306,7 @@ function putLane(lane) {
   const rate = hall.rateOf(lane);
   put(part.rate, rate === null ? "–" : count(rate));
   put(part.spoken, say("spoken", { lane: laneWords(lane.number), batch: state.batch ?? "",
-    signal: told, net, rate: rate === null ? "–" : count(rate) }));
+    signal: told, net, rate: rate === null ? "–" : count(rate), out: putOuts(part, lane) }));
   putSpark(part);
 }
 

@@ -15,7 +15,8 @@ addWords({
   xbar: ["x̄ of {size} packs, g", "x̄ von {size} Packungen, g"],
   spread: ["s of {size} packs, g", "s von {size} Packungen, g"],
   tareFrom: ["tare {tare} g", "Tara {tare} g"],
-  chartTitle: ["Nets of batch {batch} in order of weighing", "Nettos der Charge {batch}, wie gewogen"],
+  chartTitle: ["Nets of batch {batch} in order of weighing",
+    "Nettos der Charge {batch}, wie gewogen"],
   chartSays: ["{count} packs that count, mean {mean} g, s {s} g, {rejected} rejected",
     "{count} Packungen, die zählen, Mittel {mean} g, s {s} g, {rejected} ausgeschleust"],
   centre: ["mean", "Mittel"],
@@ -38,14 +39,16 @@ const text = (x, y, words, kind = "", anchor = "start") =>
   shape("text", { x, y, class: kind, "text-anchor": anchor }, words);
 const dots = (points, width, opacity = 1) => shape("path", { class: "m-pass", "stroke-width": width,
   "stroke-opacity": opacity, d: points.map(([x, y]) => `M${x} ${y}h0`).join("") });
-const across = (kind, left, right, y) => shape("path", { class: kind, d: `M${left} ${y}H${right}` });
+const across = (kind, left, right, y) =>
+  shape("path", { class: kind, d: `M${left} ${y}H${right}` });
 
 // A part of the figure: its scale up, and its frame.
 function panel(box, low, high) {
+  const { left, right, top, bottom } = box;
   const held = (value) => Math.max(low, Math.min(high, value));
   return {
-    up: (value) => round(box.bottom - (held(value) - low) / (high - low) * (box.bottom - box.top)),
-    frame: shape("path", { class: "axis", d: `M${box.left} ${box.top}V${box.bottom}H${box.right}` }),
+    up: (value) => round(bottom - (held(value) - low) / (high - low) * (bottom - top)),
+    frame: shape("path", { class: "axis", d: `M${left} ${top}V${bottom}H${right}` }),
   };
 }
 
@@ -55,7 +58,8 @@ function steps(low, high, wanted) {
   const power = 10 ** Math.floor(Math.log10(rough));
   const step = [1, 2, 5, 10].map((part) => part * power).find((part) => part >= rough);
   const first = Math.ceil(low / step) * step;
-  return Array.from({ length: Math.floor((high - first) / step) + 1 }, (_, at) => first + at * step);
+  const length = Math.floor((high - first) / step) + 1;
+  return Array.from({ length }, (_, at) => first + at * step);
 }
 
 // Where everything lies, for a figure of this size.
@@ -88,14 +92,16 @@ function packMarks(shown, { up, x, low, top, nets }, isOnly) {
   const at = (pack) => [x(pack.place), up(pack.net)];
   const of = (pile) => shown.filter((pack) => isIn(pack) && pack.pile === pile).map(at);
   const size = Math.max(2, Math.min(7, 2400 / shown.length + 1.8));
-  const passed = isOnly ? of("passed") : shown.filter((pack) => isIn(pack) && isCounted(pack)).map(at);
+  const isPassed = (pack) => (isOnly ? pack.pile === "passed" : isCounted(pack));
+  const passed = shown.filter((pack) => isIn(pack) && isPassed(pack)).map(at);
   return [
     dots(passed, round(size), shown.length > 3000 ? .5 : .85),
     isOnly ? mark("sample", of("sampled")) : [],
     mark("void", of("voided")), mark("reject", of("rejected")),
     mark("beyond", shown.filter(({ net }) => net < low).map(({ place }) => [x(place),
       nets.bottom - 6])),
-    mark("above", shown.filter(({ net }) => net > top).map(({ place }) => [x(place), nets.top + 5])),
+    mark("above", shown.filter(({ net }) => net > top).map(({ place }) => [x(place),
+      nets.top + 5])),
   ];
 }
 

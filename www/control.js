@@ -45,7 +45,8 @@ export function subgroups(packs, size) {
   for (let at = 0; at + size <= counted.length; at += size) {
     const part = counted.slice(at, at + size);
     const [first, last] = [part[0].place, part.at(-1).place];
-    groups.push({ first, last, place: (first + last) / 2, ...meanAndS(part.map(({ net }) => net)) });
+    groups.push({ first, last, place: (first + last) / 2,
+      ...meanAndS(part.map(({ net }) => net)) });
   }
   const average = (pick) => groups.reduce((sum, group) => sum + pick(group), 0) / groups.length;
   const [centre, spread, fit] = [average(({ mean }) => mean), average(({ s }) => s), c4(size)];

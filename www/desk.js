@@ -2,7 +2,7 @@
 // its own; every other act behind one menu with a search; what the book answered.
 
 import * as office from "./office.js";
-import { ACTS, actWords, makeForm, nameLists, pendingWords, toldActs } from "./acts.js";
+import { ACT_NAMES, actWords, nameLists, pendingWords, toldActs } from "./acts.js";
 import { addListed, names } from "./names.js";
 import { addWords, say, word } from "./words.js";
 import { count, day, quantity } from "./numbers.js";
@@ -10,10 +10,7 @@ import { deskChoice, onDesk } from "./mydesk.js";
 import { icon, loadStyles, make, put, redraw } from "./page.js";
 import { isTask, nextOf } from "./tasks.js";
 import { partOf, stepList, stepPanel } from "./steps.js";
-import { allLanes } from "./follow.js";
 import { onChange } from "./requests.js";
-import { openMeasuring } from "./measuring.js";
-import { openPickList } from "./labels.js";
 import { outcomeWords } from "./refusals.js";
 
 addWords({
@@ -31,9 +28,12 @@ addWords({
     "gesperrt: Packung streichen oder Tara berichtigen"],
   "next end": ["its lanes stopped: end it", "ihre Linien stehen: beenden"],
   "next draw": ["draw the sample", "Probe ziehen"],
-  "next measure": ["measure, {measured} of {count} done", "nachwiegen, {measured} von {count} getan"],
+  "next measure": ["measure, {measured} of {count} done",
+    "nachwiegen, {measured} von {count} getan"],
   "next second": ["draw the second sample", "zweite Probe ziehen"],
   "next close": ["close it", "abschließen"],
+  noForm: ["No answer: the form can't be shown now.",
+    "Keine Antwort: das Formular kann jetzt nicht gezeigt werden."],
   told: ["Told by the book", "Vom Buch gesagt"],
   bookDay: ["Day of the book: {day}", "Tag des Buchs: {day}"],
   inForce: ["What is in force", "Was gilt"],
@@ -60,7 +60,7 @@ function batchNames() {
 }
 
 async function askAll() {
-  const lanes = await allLanes();
+  const lanes = await office.allLanes();
   state.onLane = new Set(lanes.map(({ batch }) => batch).filter((batch) => batch));
   const wanted = batchNames();
   if (state.batch && !wanted.includes(state.batch)) wanted.push(state.batch);
@@ -128,7 +128,13 @@ async function told() {
   putWork(true);
 }
 
-async function openMode(sheet, name, open) {
+// What is loaded when a mode is opened.
+const MODES = {
+  measure: () => import("./measuring.js"),
+  pick: () => import("./labels.js"),
+};
+
+async function openMode(sheet, name) {
   state.mode = name;
   const leave = () => {
     state.mode = "";
@@ -136,7 +142,7 @@ async function openMode(sheet, name, open) {
   };
   const mode = make("div");
   place.work.replaceChildren(titleOf(sheet), stepList("measure"), mode);
-  await office.following(() => open(mode, sheet, leave));
+  await office.following(async () => (await MODES[name]()).open(mode, sheet, leave));
 }
 
 function putWork(isAnew = false) {
@@ -154,15 +160,25 @@ function putWork(isAnew = false) {
     return;
   }
   const acts = { told, openAct,
-    measure: () => openMode(sheet, "measure", openMeasuring),
-    pick: () => openMode(sheet, "pick", openPickList) };
+    measure: () => openMode(sheet, "measure"), pick: () => openMode(sheet, "pick") };
   place.work.replaceChildren(titleOf(sheet), stepList(nextFor(sheet)),
     stepPanel(sheet, state.onLane.has(sheet.batch), acts));
 }
 
-function openAct(name, values = {}) {
-  state.mode = `act ${name}`;
+const loadForms = () => import("./forms.js").catch(() => null);
+
+async function openAct(name, values = {}) {
+  const mode = `act ${name}`;
+  state.mode = mode;
   place.desk.classList.add("has-work");
+  const forms = await loadForms();
+  if (state.mode !== mode) return;
+  if (!forms) {
+    state.mode = "";
+    put(place.said, say("noForm"));
+    return;
+  }
+  const { ACTS, makeForm } = forms;
   const form = makeForm(name, ACTS[name], `act-${name}`, () => {
     office.following(askAll).then(putLists);
     putNames();
@@ -181,7 +197,7 @@ function openAct(name, values = {}) {
 function buildMenu() {
   const search = make("input", { id: "find-act", type: "search", autocomplete: "off" });
   const none = make("p", { className: "quiet", hidden: true }, say("noAct"));
-  const lines = Object.keys(ACTS).map((name) => {
+  const lines = ACT_NAMES.map((name) => {
     const button = make("button", { type: "button", className: "second", id: `open-${name}` },
       say(`act.${name}`));
     button.addEventListener("click", () => openAct(name));
@@ -240,7 +256,8 @@ export async function build(section) {
   place = { pending: make("p", { className: "pending", role: "status" }), told: list("told-list"),
     tasks: list("tasks"), runs: list("plain-list"), closed: list("plain-list"),
     work: make("div", { className: "work" }), names: make("div"), listed: make("pre"),
-    said: make("p", { className: "said done", role: "status" }), day: make("p", { className: "quiet" }),
+    said: make("p", { className: "said done", role: "status" }),
+    day: make("p", { className: "quiet" }),
     runsHead: make("h3", {}, say("runs")), closedHead: make("h3", {}, say("closedLately")) };
   place.force = make("details", { className: "in-force" }, make("summary", {}, say("inForce")),
     place.listed);
@@ -253,6 +270,10 @@ export async function build(section) {
     make("aside", { className: "told", "aria-label": say("told") }, make("h2", {}, say("told")),
       place.told, place.force));
   section.append(place.desk, place.names);
+  // the forms are there before the first one is opened, also where the link breaks by then
+  for (const sign of ["focusin", "pointerover"]) {
+    place.desk.addEventListener(sign, loadForms, { once: true });
+  }
   onChange(putTold);
   onDesk(putTold);
   putTold();

@@ -1,6 +1,6 @@
 // How a batch would fare in the three checks of all its packs if it were ended now, exact to the
-// milligram and the pack: the packers' part of the verdict. The reference test isn't foretold, since
-// its sample isn't drawn yet. Pure: it asks nobody and shows nothing.
+// milligram and the pack: the packers' part of the verdict. The reference test isn't foretold,
+// since its sample isn't drawn yet. Pure: it asks nobody and shows nothing.
 //
 // A batch is what its sheet says: `population` packs with `net` mg in all, `nonstandard` and
 // `inadequate` of them, a nominal `quantity` in mg or microlitres at a `density`.

@@ -8,7 +8,6 @@ import { make, put, table } from "./page.js";
 import { packAt, packsOf } from "./follow.js";
 
 addWords({
-  pickList: ["Pick list", "Suchliste"],
   pickTitle: ["Pick list of {batch}: {count} packs", "Suchliste {batch}: {count} Packungen"],
   pickHint: ["By lane and place: so they are found in one walk.",
     "Nach Linie und Platz: so sind sie in einem Gang gefunden."],
@@ -60,7 +59,8 @@ function download(name, text) {
 function listTable(sheet, packs) {
   const byPlace = [...packs].sort((one, other) => one.lane - other.lane
     || one.number - other.number);
-  const heads = ["pack", "lane", "pickPlace", "gross", "pickNo", "pickFound"].map((key) => say(key));
+  const heads = ["pack", "lane", "pickPlace", "gross", "pickNo", "pickFound"]
+    .map((key) => say(key));
   const rows = byPlace.map(({ number, lane, place, gross, at }) => [count(number), String(lane),
     place ? count(place) : "–", grams(gross), String(at), "☐"]);
   return table(say("pickTitle", { batch: sheet.batch, count: packs.length }), heads, rows,
@@ -68,7 +68,7 @@ function listTable(sheet, packs) {
 }
 
 // Draws the pick list into a place, with buttons to print it and to save its labels.
-export async function openPickList(place, sheet, leave) {
+export async function open(place, sheet, leave) {
   const said = make("p", { role: "status", className: "quiet" });
   place.replaceChildren(make("section", { className: "panel picklist" }, said));
   const packs = await drawnPacks(sheet, (found, all) => {

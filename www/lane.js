@@ -5,14 +5,12 @@ import * as office from "./office.js";
 import { MOST_PACKS, limitsOf } from "./rules.js";
 import { addWords, say, time, word } from "./words.js";
 import { ago, count, grams, mass, quantity } from "./numbers.js";
-import { Follower, allLanes, packAt } from "./follow.js";
+import { Follower, packAt } from "./follow.js";
 import { icon, loadStyles, make, meter, put, shape, signalTag } from "./page.js";
 import { keepText, readText } from "./store.js";
 import { forecastOf } from "./forecast.js";
 import { forecastWords } from "./forecastwords.js";
-import { laneWords } from "./alarms.js";
-import { settings } from "./settings.js";
-import { voidDialog } from "./void.js";
+import { laneWords, settings } from "./settings.js";
 
 addWords({
   PASS: ["PASS", "GUT"],
@@ -47,6 +45,8 @@ addWords({
   whichLane: ["Which lane is this?", "Welche Linie ist das?"],
   whichHint: ["This browser keeps it. A lane that weighs has its batch beside it.",
     "Dieser Browser behält es. Bei einer Linie, die wiegt, steht die Charge."],
+  voidLast: ["Void pack {pack}", "Packung {pack} streichen"],
+  voidNone: ["Void a pack", "Packung streichen"],
   otherLane: ["Another lane", "Andere Linie"],
   spokenSignal: ["{word}. Pack {pack}, {net} g. {why}", "{word}. Packung {pack}, {net} g. {why}"],
 });
@@ -130,7 +130,8 @@ function putSignal() {
   const late = Date.now() - office.link.at;
   const pack = state.packs.at(-1);
   if (office.link.at && late > LATE) {
-    return draw("offline", "warn", say("OFFLINE"), ["", say("offline", { time: ago(late / 1000) })]);
+    return draw("offline", "warn", say("OFFLINE"),
+      ["", say("offline", { time: ago(late / 1000) })]);
   }
   if (!state.rows) return undefined;
   if (!state.batch) {
@@ -212,8 +213,28 @@ function voidable() {
     .find(({ number, pile }) => pile === "passed" && number !== state.unsettled);
 }
 
+// A button that opens a dialog about the pack that can be voided; the dialog is loaded by then.
+function buildVoid() {
+  place.dialog = make("dialog");
+  place.void = make("button", { type: "button", className: "second st-void", disabled: true },
+    icon("void"), say("voidNone"));
+  place.void.addEventListener("click", async () => {
+    const dialogs = await import("./void.js").catch(() => null);
+    const pack = voidable();
+    if (dialogs && pack) dialogs.open(place.dialog, pack);
+    if (!dialogs) put(place.spoken, say("OFFLINE"));
+  });
+}
+
+function putVoid() {
+  const found = voidable();
+  place.void.disabled = !found;
+  const text = found ? say("voidLast", { pack: count(found.number) }) : say("voidNone");
+  if (place.void.textContent !== text) place.void.replaceChildren(icon("void"), text);
+}
+
 async function chooser() {
-  const lanes = await allLanes();
+  const lanes = await office.allLanes();
   const shown = lanes.filter(({ number, batch }) =>
     batch || Object.hasOwn(settings.lanes, number) || number <= 4);
   place.section.replaceChildren(make("div", { className: "which" },
@@ -230,14 +251,14 @@ function buildStation() {
     spoken: make("p", { className: "unseen", role: "status" }), number: part("h1", "st-no"),
     batch: make("strong"), goods: make("span") });
   place.signal.setAttribute("aria-label", say("signal"));
-  place.void = voidDialog(voidable);
+  buildVoid();
   place.section.replaceChildren(part("div", "st-head", place.number,
     part("p", "st-batch", place.batch, place.goods),
     make("a", { href: "#lane" }, say("otherLane")), make("a", { href: "#board" }, say("board"))),
   part("div", "station", place.signal,
-    part("section", "panel st-last", make("h2", {}, say("lastTen")), place.last, place.void.button),
+    part("section", "panel st-last", make("h2", {}, say("lastTen")), place.last, place.void),
     part("div", "panel st-progress", place.says, place.progress)),
-  place.spoken, place.void.dialog);
+  place.spoken, place.dialog);
   putHead();
   draw("wait", "idle", say("WAIT"), ["", say("loading")]);
   putLast();
@@ -277,6 +298,6 @@ export async function refresh() {
     putSignal();
     putLast();
     putProgress();
-    place.void.show();
+    putVoid();
   }
 }

@@ -7,7 +7,6 @@ import { addWords, say } from "./words.js";
 import { atRows, settledPacks } from "./follow.js";
 import { make, put } from "./page.js";
 import { count } from "./numbers.js";
-import { refusal } from "./refusals.js";
 
 addWords({
   reading: ["{found} of {all} packs read, at row {row}",
@@ -26,7 +25,8 @@ export class BatchPage {
     this.field = make("input", { id, required: true, list: `${id}-names`, autocomplete: "off" });
     this.names = make("datalist", { id: `${id}-names` });
     this.said = make("p", { role: "status", className: "quiet read-so-far" });
-    this.stopper = make("button", { type: "button", className: "second", hidden: true }, say("stop"));
+    this.stopper = make("button", { type: "button", className: "second", hidden: true },
+      say("stop"));
     this.stopper.addEventListener("click", () => { this.isStopped = true; });
     this.place = make("div", { className: "result" });
     const form = make("form", { className: "chooser" }, make("label", { for: id }, say("batch")),
@@ -35,7 +35,8 @@ export class BatchPage {
       event.preventDefault();
       location.hash = `#${this.name}/${this.field.value.trim()}`;
     });
-    section.append(make("h1", { className: "unseen" }, say(this.name)), form, this.said, this.place);
+    section.append(make("h1", { className: "unseen" }, say(this.name)), form, this.said,
+      this.place);
   }
 
   async show(batch) {
@@ -70,6 +71,7 @@ export class BatchPage {
     const sheet = await office.sheet(batch);
     this.rows = rows;
     if (sheet.refused) {
+      const { refusal } = await import("./refusals.js");
       put(this.said, refusal(sheet.refused, sheet.kept));
       this.place.replaceChildren();
       return;

@@ -1,6 +1,6 @@
 // Shows the page that the address names, keeps it fresh, and says how old it is.
 
-import { LANGUAGE, changeLanguage, say, time } from "./words.js";
+import { CODE, LANGUAGE, changeLanguage, say, time } from "./words.js";
 import { fillTexts, icon, make, put } from "./page.js";
 import { following, link } from "./office.js";
 import { keepText, readText } from "./store.js";
@@ -104,7 +104,7 @@ function buildHead() {
   put(document.getElementById("where"), settings.hall);
 }
 
-document.documentElement.lang = LANGUAGE ? "de" : "en";
+document.documentElement.lang = CODE;
 setTheme(readText("hall.theme"));
 fillTexts(document);
 await loadSettings();

@@ -1,6 +1,6 @@
 // Measuring a sample by the keyboard alone: a pack, its weight, Enter, the next pack. What is typed
-// is judged while it is typed; a weight that is far off is asked for twice. Beside it stands how the
-// sample is doing: defective packs against the numbers of the plan, mean, s and limit.
+// is judged while it is typed; a weight that is far off is asked for twice. Beside it stands how
+// the sample is doing: defective packs against the numbers of the plan, mean, s and limit.
 
 import * as office from "./office.js";
 import { addWords, say } from "./words.js";
@@ -25,7 +25,8 @@ addWords({
   mContents: ["contents {net} g", "Inhalt {net} g"],
   mGood: ["not below T1, {limit} g", "nicht unter T1, {limit} g"],
   mLight: ["defective: below T1, {limit} g", "fehlerhaft: unter T1, {limit} g"],
-  mType: ["Type or let the scale type, then Enter", "Tippen oder die Waage tippen lassen, dann Enter"],
+  mType: ["Type or let the scale type, then Enter",
+    "Tippen oder die Waage tippen lassen, dann Enter"],
   mRecord: ["Record", "Erfassen"],
   mFarText: ["Enter again records it. A measurement can't be taken back.",
     "Noch einmal Enter erfasst es. Eine Nachwägung kann nicht zurückgenommen werden."],
@@ -52,7 +53,7 @@ const MEASURED_ALREADY = 30;
 const SQUARES = 30;
 const LAST = 5;
 
-// The packs to measure in drawing order: of a sample of which M are measured, those behind the first
+// The packs to measure in drawing order: of a sample of which M are measured, those after the first
 // M come first, and then those before, which the book refuses where they are measured.
 const inTurn = (numbers, many) => [...numbers.slice(many), ...numbers.slice(0, many)];
 
@@ -120,7 +121,8 @@ function squares(task, next) {
     const kind = number === next ? "now" : isLight ? "bad" : isDone ? "good" : "later";
     const marks = { good: `M${x + 6} ${y + 11}l3.5 3.5l6.5 -7.5`,
       bad: `M${x + 6} ${y + 6}l10 10m0 -10l-10 10` };
-    const box = shape("rect", { class: `sq ${kind}`, x: x + 1.5, y: y + 1.5, width: 19, height: 19 });
+    const box = shape("rect",
+      { class: `sq ${kind}`, x: x + 1.5, y: y + 1.5, width: 19, height: 19 });
     return marks[kind] ? [box, shape("path", { class: `sq-${kind}`, d: marks[kind] })] : [box];
   });
   const part = task.isSecond ? task.sheet.second : task.sheet.first;
@@ -312,7 +314,7 @@ class Measuring {
 }
 
 // Opens the mode in a place; `leave` is called where it ends.
-export async function openMeasuring(place, sheet, leave) {
+export async function open(place, sheet, leave) {
   const task = await taskOf(sheet);
   await askTares(task);
   const mode = new Measuring(task, leave);

@@ -2,9 +2,10 @@
 // of a browser at a time.
 
 import { addWords, say } from "./words.js";
-import { canKeep, isMine, take } from "./requests.js";
+import { canKeep, isMine, onChange, take } from "./requests.js";
+import { forgetLost, lost, pending } from "./kept.js";
 import { keepText, readText } from "./store.js";
-import { make, put } from "./page.js";
+import { make, notice, put } from "./page.js";
 
 addWords({
   myDesk: ["My desk", "Mein Platz"],
@@ -12,6 +13,12 @@ addWords({
   chooseDesk: ["Choose your desk first.", "Zuerst den Platz wählen."],
   otherPage: ["Another page of this browser has this desk. Go on there, or close it.",
     "Eine andere Seite dieses Browsers hat diesen Platz. Dort weitermachen oder sie schließen."],
+  lostActs: ["This browser kept acts of desk {desk} that can't be read. Whether they were done isn't "
+    + "known: look at the batches, and do again what is missing.",
+  "Dieser Browser hat Handlungen von Platz {desk} aufgehoben, die nicht lesbar sind. Ob sie getan "
+    + "sind, ist nicht bekannt: die Chargen ansehen und wiederholen, was fehlt."],
+  lostText: ["Kept was: {text}", "Aufgehoben war: {text}"],
+  looked: ["I have looked", "Angesehen"],
   noRoom: ["This browser keeps nothing for the page, or the link isn't https: acts can't be sent.",
     "Der Browser behält nichts für die Seite, oder es ist kein https: nichts wird gesendet."],
 });
@@ -50,6 +57,26 @@ export function lacks() {
   return isMine(state.desk) ? "" : "otherPage";
 }
 
+// Says which acts of the desk this browser kept and can't read, until a person has looked.
+function putLost(place) {
+  const { desk } = state;
+  // reading them sets aside what can't be read
+  if (desk) pending(desk);
+  const texts = desk ? lost(desk) : [];
+  const now = `${desk} ${texts.join()}`;
+  if (place.dataset.shown === now) return;
+  place.dataset.shown = now;
+  place.replaceChildren();
+  if (texts.length === 0) return;
+  const button = make("button", { type: "button", className: "second" }, say("looked"));
+  button.addEventListener("click", () => {
+    forgetLost(desk);
+    changed();
+  });
+  place.append(notice("alarm", "warn", say("lostActs", { desk }),
+    texts.map((text) => make("p", { className: "mono" }, say("lostText", { text }))), button));
+}
+
 // A choice of the desk, under an id of its own.
 export function deskChoice(id) {
   const numbers = Array.from({ length: DESKS[1] - DESKS[0] + 1 }, (_, at) => DESKS[0] + at);
@@ -62,12 +89,15 @@ export function deskChoice(id) {
     choose(Number(choice.value));
   });
   if (!state.chosen) choose(keptDesk());
+  const unread = make("div", { className: "unread", role: "status" });
   const show = () => {
     choice.value = String(state.desk);
     put(other, state.waits ? say("otherPage") : "");
+    putLost(unread);
   };
   onDesk(show);
+  onChange(show);
   show();
-  return make("p", { className: "desk-choice" }, make("label", { for: id }, say("myDesk")), choice,
-    other);
+  return make("div", { className: "desk-choice" }, make("label", { for: id }, say("myDesk")), choice,
+    other, unread);
 }

@@ -52,7 +52,8 @@ export function duration(minutes) {
 }
 
 // How long ago, in seconds.
-export const ago = (seconds) => (seconds < 120 ? `${Math.round(seconds)} s` : duration(seconds / 60));
+export const ago = (seconds) =>
+  (seconds < 120 ? `${Math.round(seconds)} s` : duration(seconds / 60));
 
 // A day of the book in the language of the page.
 export function day(text) {

@@ -2,6 +2,7 @@
 
 import { readActs, readLanes, readList, readPack, readPacks, readSample, readSheet, readSummary }
   from "./answers.js";
+import { MOST_LANES } from "./rules.js";
 
 // Milliseconds that an answer is waited for: longer than the front itself waits for a door.
 export const PATIENCE = 20_000;
@@ -80,6 +81,12 @@ export async function lane(number) {
   const words = refused ? [] : text.trim().split(" ");
   return { number, rows: row, batch: words[2] === "batch" ? words[3] : null,
     unsettled: words[5] ? Number(words[5]) : null };
+}
+
+// What all lanes now do.
+export function allLanes() {
+  const numbers = Array.from({ length: MOST_LANES }, (_, at) => at + 1);
+  return Promise.all(numbers.map(lane));
 }
 
 // A pack, or null where the row of this number is none.

@@ -28,7 +28,8 @@ export function put(place, text) {
   if (place.textContent !== String(text)) place.textContent = text;
 }
 
-// Puts parts in the place of those that are there where they differ, so that a link keeps its focus.
+// Puts parts in the place of those that are there where they differ, so that a link keeps its
+// focus.
 export function redraw(place, parts) {
   const now = make("div", {}, parts);
   if (now.innerHTML !== place.innerHTML) place.replaceChildren(...now.childNodes);

@@ -5,7 +5,8 @@ import { meanCheck } from "./sample.js";
 import { planOf } from "./rules.js";
 
 // The tare of each pack, as the book now reckons with it.
-export const tareOf = (packs) => new Map(packs.map(({ number, gross, net }) => [number, gross - net]));
+export const tareOf = (packs) =>
+  new Map(packs.map(({ number, gross, net }) => [number, gross - net]));
 
 // What a measured pack contains; nothing where its weight isn't known.
 export function contentsOf({ gross, empty }, tare, mode) {

@@ -3,7 +3,7 @@
 // page keeps another may see a moment later; when it is closed, the next goes on with what it left.
 
 import { Missing, reach } from "./office.js";
-import { readKept } from "./store.js";
+import { keepOf, pending, readOf, told } from "./kept.js";
 
 const FIRST_PAUSE = 500;
 const LONGEST_PAUSE = 5_000;
@@ -17,21 +17,6 @@ const GAP = 4;
 // A request of number 0 is never an act: it is refused as old, with the desk's last number.
 const ASK_LAST = { request: 0, members: '"act":"day","day":"1970-01-01"' };
 
-const key = (desk, what) => `hall.${what}.${desk}`;
-
-const read = (desk, what, otherwise) => readKept(key(desk, what), otherwise);
-
-function keep(desk, what, value) {
-  localStorage.setItem(key(desk, what), JSON.stringify(value));
-}
-
-// What was kept and is whole; another page or program may have written into the store.
-const isEntry = (entry) => typeof entry?.mark === "string" && Number.isSafeInteger(entry.request)
-  && typeof entry.members === "string";
-
-export const pending = (desk) => read(desk, "acts", []).filter(isEntry);
-export const told = (desk) => read(desk, "told", [])
-  .filter((entry) => isEntry(entry) && entry.found);
 // Why the first act of a desk has no answer yet: a status, or the name of a fault.
 export const why = new Map();
 
@@ -46,7 +31,7 @@ function changed(desk) {
 }
 
 addEventListener("storage", (event) => {
-  const parts = /^hall\.(?:acts|told)\.(\d+)$/.exec(event.key ?? "");
+  const parts = /^hall\.(?:acts|told|lost)\.(\d+)$/.exec(event.key ?? "");
   if (parts) changed(Number(parts[1]));
 });
 
@@ -107,8 +92,8 @@ function spell(act) {
 export function give(desk, act) {
   const mark = crypto.randomUUID();
   const acts = pending(desk);
-  const request = (acts.at(-1)?.request ?? read(desk, "last", 0)) + 1;
-  keep(desk, "acts", [...acts, { mark, request, act: act.act, members: spell(act), tries: 0 }]);
+  const request = (acts.at(-1)?.request ?? readOf(desk, "last", 0)) + 1;
+  keepOf(desk, "acts", [...acts, { mark, request, act: act.act, members: spell(act), tries: 0 }]);
   changed(desk);
   send(desk);
   return mark;
@@ -166,7 +151,7 @@ async function sendFirst(desk) {
 function countTry(desk) {
   const acts = pending(desk);
   acts[0].tries += 1;
-  keep(desk, "acts", acts);
+  keepOf(desk, "acts", acts);
 }
 
 async function post(desk, head) {
@@ -205,8 +190,8 @@ function judgeRefusal(isNew, { refused, kept }) {
 
 // Numbers acts that haven't been sent under a number that counts, from the one behind `last`.
 function number(desk, acts, last) {
-  keep(desk, "last", last);
-  keep(desk, "acts", acts.map((act, place) => ({ ...act, request: last + 1 + place, tries: 0 })));
+  keepOf(desk, "last", last);
+  keepOf(desk, "acts", acts.map((act, place) => ({ ...act, request: last + 1 + place, tries: 0 })));
 }
 
 // Takes down what became of the first act. Those behind it weren't sent yet.
@@ -215,7 +200,7 @@ function settle(desk, head, found) {
     number(desk, pending(desk), found.last === "this" ? head.request : found.last);
   } else {
     const { mark, request, act, members } = head;
-    keep(desk, "told", [{ mark, request, act, members, found }, ...told(desk)].slice(0, TOLD));
+    keepOf(desk, "told", [{ mark, request, act, members, found }, ...told(desk)].slice(0, TOLD));
     number(desk, pending(desk).slice(1), found.done ? request : request - 1);
   }
   why.delete(desk);

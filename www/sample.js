@@ -35,8 +35,8 @@ function nearest(over, under) {
 // The limit is reckoned in billionths of a mg before it is rounded.
 const BILLION = 1_000_000_000n;
 
-// The mean check over the contents of the first packs, in mg: whether it accepts, exactly; and mean,
-// s and the limit Qn - k s, each rounded to the mg. Nothing where there are no contents.
+// The mean check over the contents of the first packs, in mg: whether it accepts, exactly; and
+// mean, s and the limit Qn - k s, each rounded to the mg. Nothing where there are no contents.
 export function meanCheck(contents, { quantity, density = UNIT_DENSITY, k }) {
   const count = BigInt(contents.length);
   if (count === 0n) return null;

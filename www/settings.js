@@ -1,8 +1,9 @@
 // The settings of a hall, which the front serves as settings.json where there are any: names,
-// limits of alarms, prices and a rule of the country. What isn't there, or isn't as it has to be, is
-// as here; docs/OPERATING.md says what each is for.
+// limits of alarms, prices and a rule of the country. What isn't there, or isn't as it has to be,
+// is as here; docs/OPERATING.md says what each is for.
 
 import { reach } from "./office.js";
+import { say } from "./words.js";
 
 const DEFAULTS = {
   hall: "",
@@ -55,9 +56,10 @@ export async function loadSettings() {
   if (answer?.status === 200) Object.assign(settings, readSettings(answer.text));
 }
 
-// The name of a lane beside its number; nothing where it has none.
-export function laneName(number) {
-  return Object.hasOwn(settings.lanes, number) ? settings.lanes[number] : "";
+// A lane by its number, and its name where it has one.
+export function laneWords(number) {
+  const name = Object.hasOwn(settings.lanes, number) ? ` ${settings.lanes[number]}` : "";
+  return say("laneOf", { lane: number }) + name;
 }
 
 // What a kilogram or litre of a product costs; nothing where it isn't set.

@@ -1,6 +1,7 @@
-// The sheet of a batch, to be printed on A4: the reference test whole, limits, tares, the five checks,
-// every pack that doesn't count. The weights of the samples stand in the batch's paper, which the
-// front may serve or a person chooses. The verdict is the book's; what is rounded has a sign.
+// The sheet of a batch, to be printed on A4: the reference test whole, limits, tares, the five
+// checks, every pack that doesn't count. The weights of the samples stand in the batch's paper,
+// which the front may serve or a person chooses. The verdict is the book's; what is rounded has a
+// sign.
 
 import * as office from "./office.js";
 import { addWords, say, time, word } from "./words.js";
@@ -12,7 +13,7 @@ import { BatchPage } from "./loader.js";
 import { drawChart } from "./chart.js";
 import { failsOf } from "./forecast.js";
 import { measuredOf } from "./measured.js";
-import { readPaper } from "./answers.js";
+import { readPaper } from "./paper.js";
 import { samplesMeasured, samplesOfPaper, tareOf, testOf } from "./reference.js";
 import { tareChanges } from "./control.js";
 
@@ -38,7 +39,8 @@ addWords({
   nContents: ["d1 ≤ c1 = {c1} accepts, ≥ r1 = {r1} rejects", "d1 ≤ c1 = {c1} nimmt an, ≥ r1 = {r1} "
     + "weist zurück"],
   nContents2: ["; then d1 + d2 ≤ c2 = {c2}", "; dann d1 + d2 ≤ c2 = {c2}"],
-  fMean: ["x̄ ≈ {mean} g of the first {means}, s ≈ {s} g", "x̄ ≈ {mean} g der ersten {means}, s ≈ {s} g"],
+  fMean: ["x̄ ≈ {mean} g of the first {means}, s ≈ {s} g",
+    "x̄ ≈ {mean} g der ersten {means}, s ≈ {s} g"],
   nMean: ["x̄ ≥ Qn − {k}·s ≈ {limit} g", "x̄ ≥ Qn − {k}·s ≈ {limit} g"],
   noWeights: ["the weights stand in the paper", "die Gewichte stehen im Papier"],
   notMeasured: ["not measured yet", "noch nicht nachgewogen"],
@@ -55,8 +57,9 @@ addWords({
   error: ["Tolerable error TNE", "Zulässiger Fehler TNE"],
   densityOf: ["Density, g a litre", "Dichte, g je Liter"],
   planRow: ["Plan for {count} packs, {mode}: first {first} (c1 {c1}, r1 {r1}), second {second} "
-    + "(c2 {c2}, r2 {r2}), mean of {means}, k {k}", "Plan für {count} Packungen, {mode}: erste {first} "
-    + "(c1 {c1}, r1 {r1}), zweite {second} (c2 {c2}, r2 {r2}), Mittel von {means}, k {k}"],
+    + "(c2 {c2}, r2 {r2}), mean of {means}, k {k}",
+  "Plan für {count} Packungen, {mode}: erste {first} (c1 {c1}, r1 {r1}), zweite {second} "
+    + "(c2 {c2}, r2 {r2}), Mittel von {means}, k {k}"],
   "mode keep": ["kept", "heil"],
   "mode destroy": ["opened", "geöffnet"],
   chartHead: ["All packs in order of weighing", "Alle Packungen, wie gewogen"],
@@ -77,13 +80,15 @@ addWords({
     "Wie sie jetzt sind; eine berichtigte hat ihre Packungen neu beurteilt."],
   outs: ["Rejected and voided packs: {count}", "Ausgeschleuste und gestrichene Packungen: {count}"],
   noOuts: ["No pack was rejected or voided.", "Keine Packung wurde ausgeschleust oder gestrichen."],
-  rounded: ["≈ is rounded. The verdict and each result of a closed batch are the book's, decided in "
-    + "whole milligrams.", "≈ ist gerundet. Das Urteil und jedes Ergebnis einer abgeschlossenen Charge "
-    + "sind die des Buchs, in ganzen Milligramm entschieden."],
+  rounded: ["≈ is rounded. The verdict and each result of a closed batch are the book's, decided "
+    + "in whole milligrams.",
+  "≈ ist gerundet. Das Urteil und jedes Ergebnis einer abgeschlossenen Charge sind die des Buchs, "
+    + "in ganzen Milligramm entschieden."],
   notClosed: ["Not closed: results of all packs are those of now.",
     "Nicht abgeschlossen: die Ergebnisse aller Packungen sind die von jetzt."],
   closedAt: ["Closed by row {row}. Fingerprint at the closing: hall audit --book BOOK --rows {row}",
-    "Abgeschlossen mit Zeile {row}. Fingerabdruck beim Abschluss: hall audit --book BUCH --rows {row}"],
+    "Abgeschlossen mit Zeile {row}. Fingerabdruck beim Abschluss: "
+      + "hall audit --book BUCH --rows {row}"],
   proveIt: ["To check it: hall paper --batch {batch}, then prove.",
     "Zum Prüfen: hall paper --batch {batch}, dann prove."],
   noArchive: ["Who and when, and the evidence on tares and scales, need the archive of the hall.",
@@ -93,7 +98,8 @@ addWords({
     "Gedruckt {day} {time} aus Zeile {row} des Buchs."],
   choosePaper: ["Paper of the batch (hall paper --batch {batch})",
     "Papier der Charge (hall paper --batch {batch})"],
-  notItsPaper: ["This file isn't the paper of {batch}.", "Diese Datei ist nicht das Papier von {batch}."],
+  notItsPaper: ["This file isn't the paper of {batch}.",
+    "Diese Datei ist nicht das Papier von {batch}."],
   differs: ["The paper's figures and the verdict of the book differ: have both checked.",
     "Die Zahlen des Papiers und das Urteil des Buchs widersprechen sich: beides prüfen lassen."],
 });
@@ -267,8 +273,9 @@ function footOf(sheet, { paper }) {
   return make("footer", { className: "sh-foot" },
     make("p", {}, `${say("rounded")} ${sheet.verdict ? "" : say("notClosed")}`),
     make("p", {}, `${closing}${sheet.verdict ? say("proveIt", sheet) : ""} ${say("noArchive")}`),
-    make("div", { className: "sh-sign" }, make("p", {}, say("printed", { day: day(date),
-      time: time(now), row: count(sheet.rows) })), make("p", { className: "sign" }, say("signed"))));
+    make("div", { className: "sh-sign" },
+      make("p", {}, say("printed", { day: day(date), time: time(now), row: count(sheet.rows) })),
+      make("p", { className: "sign" }, say("signed"))));
 }
 
 function sheetOf(sheet, packs, samples) {

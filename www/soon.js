@@ -1,4 +1,5 @@
-// A page that needs the archive of the hall, which isn't set up: it says so, and what to do instead.
+// A page that needs the archive of the hall, which isn't set up: it says so, and what to do
+// instead.
 
 import { addWords, say } from "./words.js";
 import { make, notice } from "./page.js";
@@ -6,7 +7,8 @@ import { make, notice } from "./page.js";
 addWords({
   needsArchive: ["This page needs the archive of the hall, which isn't set up here.",
     "Diese Seite braucht das Archiv der Halle, das hier nicht eingerichtet ist."],
-  "instead reports": ["A report of one book: hall report --book BOOK, or the register by hall export.",
+  "instead reports": [
+    "A report of one book: hall report --book BOOK, or the register by hall export.",
     "Ein Bericht eines Buchs: hall report --book BUCH, oder das Register mit hall export."],
   "instead evidence": ["Keep the papers of tares and scales as before; the book has the tares.",
     "Die Zettel zu Taren und Waagen wie bisher aufheben; die Taren stehen im Buch."],

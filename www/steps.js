@@ -26,8 +26,8 @@ addWords({
   drawTitle: ["Draw {first} of {count} packs", "{first} von {count} Packungen ziehen"],
   drawText: ["The plan for {count} packs: at most {c1} of {first} below T1 accepts, {r1} rejects; "
     + "between them {second} more are drawn.",
-  "Der Plan für {count} Packungen: höchstens {c1} von {first} unter T1 nimmt an, {r1} weist zurück; "
-    + "dazwischen werden {second} weitere gezogen."],
+  "Der Plan für {count} Packungen: höchstens {c1} von {first} unter T1 nimmt an, {r1} weist "
+    + "zurück; dazwischen werden {second} weitere gezogen."],
   drawAll: ["Under 100 packs all are measured: at most {c1} of them below T1 accepts.",
     "Unter 100 Packungen werden alle nachgewogen: höchstens {c1} davon unter T1 nimmt an."],
   keepWhole: ["The packs are kept", "Die Packungen bleiben heil"],
@@ -45,8 +45,8 @@ addWords({
     "Sie können jederzeit aufhören; was erfasst ist, bleibt."],
   measureDo: ["Measure", "Nachwiegen"],
   secondTitle: ["{d1} below T1 leave it open", "{d1} unter T1 lassen es offen"],
-  secondText: ["With at most {c1} it would be accepted now, with {r1} rejected. {second} more packs "
-    + "decide: at most {c2} of both together.",
+  secondText: ["With at most {c1} it would be accepted now, with {r1} rejected. {second} more "
+    + "packs decide: at most {c2} of both together.",
   "Mit höchstens {c1} wäre sie jetzt angenommen, mit {r1} zurückgewiesen. {second} weitere "
     + "entscheiden: höchstens {c2} von beiden zusammen."],
   secondDo: ["Draw the second sample", "Zweite Probe ziehen"],
@@ -71,6 +71,7 @@ addWords({
   defectsNow: ["Defective in the sample", "Fehlerhaft in der Probe"],
   c1r1: ["{d1}, c1 = {c1}, r1 = {r1}", "{d1}, c1 = {c1}, r1 = {r1}"],
   c2r2: ["{both}, c2 = {c2}, r2 = {r2}", "{both}, c2 = {c2}, r2 = {r2}"],
+  pickList: ["Pick list", "Suchliste"],
   toSheet: ["Sheet", "Blatt"],
   toChart: ["Chart", "Karte"],
 });
@@ -101,7 +102,8 @@ function standing(sheet) {
   if (sheet.first) {
     const d1 = sheet.first.defective;
     facts.push([say("defectsNow"), sheet.second
-      ? say("c2r2", { ...plan, both: d1 + sheet.second.defective }) : say("c1r1", { ...plan, d1 })]);
+      ? say("c2r2", { ...plan, both: d1 + sheet.second.defective })
+      : say("c1r1", { ...plan, d1 })]);
   }
   return make("dl", { className: "lines before" }, facts.map(([name, value]) =>
     make("div", {}, make("dt", {}, name), make("dd", {}, value))));

@@ -6,12 +6,10 @@ import { addWords, say } from "./words.js";
 import { count, grams } from "./numbers.js";
 import { deskChoice, lacks, myDesk, onDesk } from "./mydesk.js";
 import { give, outcome } from "./requests.js";
-import { icon, make, put } from "./page.js";
+import { make, put } from "./page.js";
 import { outcomeWords } from "./refusals.js";
 
 addWords({
-  voidLast: ["Void pack {pack}", "Packung {pack} streichen"],
-  voidNone: ["Void a pack", "Packung streichen"],
   voidTitle: ["Void pack {pack}?", "Packung {pack} streichen?"],
   voidHint: ["{net} g, passed. It then no longer counts, and stays in the book as voided. Why?",
     "{net} g, durchgelassen. Sie zählt dann nicht mehr und bleibt als gestrichen im Buch. Warum?"],
@@ -28,25 +26,6 @@ addWords({
 
 const REASONS = ["torn", "twice", "label", "other"];
 
-// A button, a dialog, and `show`, which puts the pack that `voidable` finds on the button.
-export function voidDialog(voidable) {
-  const button = make("button", { type: "button", className: "second st-void", disabled: true },
-    icon("void"), say("voidNone"));
-  const dialog = make("dialog");
-  let pack;
-  button.addEventListener("click", () => {
-    pack = voidable();
-    if (pack) open(dialog, pack);
-  });
-  const show = () => {
-    const found = voidable();
-    button.disabled = !found;
-    const text = found ? say("voidLast", { pack: count(found.number) }) : say("voidNone");
-    if (button.textContent !== text) button.replaceChildren(icon("void"), text);
-  };
-  return { button, dialog, show };
-}
-
 function reasonChoice(chosen) {
   return make("div", { className: "picks", role: "radiogroup", "aria-labelledby": "void-title" },
     REASONS.map((reason) => {
@@ -56,7 +35,8 @@ function reasonChoice(chosen) {
     }));
 }
 
-function open(dialog, pack) {
+// Opens the dialog about a pack.
+export function open(dialog, pack) {
   const said = make("p", { className: "said", role: "status" });
   const go = make("button", { type: "button", disabled: true }, say("doVoid"));
   const back = make("button", { type: "button", className: "second" }, say("back"));
@@ -70,7 +50,8 @@ function open(dialog, pack) {
   go.addEventListener("click", async () => {
     go.disabled = true;
     put(said, say("underWay"));
-    const entry = await outcome(myDesk(), give(myDesk(), { act: "void", pack: pack.number, reason }));
+    const mark = give(myDesk(), { act: "void", pack: pack.number, reason });
+    const entry = await outcome(myDesk(), mark);
     said.className = `said ${entry.found.done ? "done" : "refused"}`;
     put(said, outcomeWords(entry));
     put(back, say("back"));

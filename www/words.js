@@ -6,6 +6,7 @@ const KEPT = "hall.lang";
 
 const wish = () => readText(KEPT) ?? navigator.language;
 export const LANGUAGE = wish().toLowerCase().startsWith("de") ? 1 : 0;
+export const CODE = ["en", "de"][LANGUAGE];
 
 const WORDS = {
   board: ["Board", "Tafel"],

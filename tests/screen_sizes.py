@@ -1,0 +1,102 @@
+"""Bytes that each page loads, what the key Tab comes by, and that nothing on a page moves while packs
+come. A part of tests/screen.py."""
+
+import time
+
+from selenium.webdriver.common.action_chains import ActionChains
+from selenium.webdriver.common.keys import Keys
+
+from clients import need
+from screen_pages import make_room, open_page, set_language
+
+# Bytes that a page may load in all, and as the front sends them.
+PAGE_BYTES, SENT_BYTES = 100_000, 35_000
+
+
+def shifts(browser, since):
+    """How far parts of a page were moved by others since a moment, as the browser measures it."""
+    return browser.driver.execute_async_script("""
+        const [since, tell] = arguments;
+        const found = [];
+        new PerformanceObserver((list) => found.push(...list.getEntries()))
+            .observe({ type: "layout-shift", buffered: true });
+        setTimeout(() => tell(found.filter((one) => one.startTime > since)
+            .map((one) => [one.value, ...one.sources.map(({ node }) =>
+                `${node?.nodeName} ${node?.className ?? ""} ${node?.textContent?.slice(0, 40)}`)])),
+            500)""", since)
+
+
+def stays(browser, seconds, where):
+    """While packs come nothing on the page is moved."""
+    since = browser.run("return performance.now()")
+    time.sleep(seconds)
+    moved = shifts(browser, since)
+    need(not moved, f"{where}: moved by other parts: {moved}")
+    print(f"screen: {where}: layout shift 0 in {seconds} s", flush=True)
+
+
+def check_stays(browser):
+    set_language(browser, "en")
+    for page, selector, size in (("board", "#board .strip", (1920, 1080)),
+                                 ("lane/1", "#lane .st-signal", (1024, 768)),
+                                 ("desk", "#desk .task", (1280, 800))):
+        browser.view(*size)
+        open_page(browser, page, selector)
+        # what a page first shows may still grow: nets of the last minutes, a rate after 10 s
+        time.sleep(14)
+        stays(browser, 8, page)
+
+
+def check_size(browser):
+    """Each page loads itself alone, from here alone, and is small."""
+    for page, selector in (("board", "#board .strip"), ("lane/1", "#lane .st-signal"),
+                           ("batch/RICE-1201-A", "#batch svg.figure"), ("desk", "#desk .task"),
+                           ("sheet/RICE-1130-E", "#sheet .paper"), ("search", "#search .notice")):
+        browser.driver.get("about:blank")
+        open_page(browser, page, selector)
+        if page == "desk":
+            browser.open("desk/RICE-1130-D")
+            browser.find(".go-measure").click()
+            browser.find("#m-gross")
+        size, sent, elsewhere = browser.run("""
+            const all = performance.getEntriesByType("resource")
+                .concat(performance.getEntriesByType("navigation"));
+            const asked = /\\/hall\\/|\\/papers\\/|(list|lanes)\\.txt|settings\\.json/;
+            const own = all.filter((one) => !asked.test(one.name));
+            const sum = (key) => own.reduce((total, one) => total + one[key], 0);
+            return [sum("decodedBodySize"), sum("encodedBodySize"),
+                all.filter((one) => !one.name.startsWith(location.origin)).map((one) => one.name)]""")
+        need(10_000 < size <= PAGE_BYTES and sent <= SENT_BYTES and not elsewhere,
+             f"the page {page} loads {size} bytes, {sent} as sent, of elsewhere {elsewhere}")
+        print(f"screen: the page {page.split('/')[0]} loads {size} bytes, {sent} as sent",
+              flush=True)
+
+
+def check_keyboard(browser):
+    """The key Tab comes by everything that can be used, on each page."""
+    for page, selector in (("board", "#board .strip"), ("desk/RICE-1130-C", "#desk .step.draw"),
+                           ("batch/RICE-1201-A", "#batch svg.figure"),
+                           ("sheet/RICE-1130-E", "#sheet .paper"), ("lane/1", "#lane .st-signal")):
+        open_page(browser, page, selector)
+        browser.run("document.activeElement.blur()")
+        visited = set()
+        for _ in range(60):
+            ActionChains(browser.driver).send_keys(Keys.TAB).perform()
+            visited.add(browser.run("return document.activeElement.outerHTML.slice(0, 90)"))
+        left = browser.run("""return [...document.querySelectorAll(
+            "a, input, select, button, summary")].filter((one) => one.checkVisibility()
+            && !one.disabled && !one.classList.contains("skip")
+            && !(one.type === "radio" && !one.checked)).map((one) => one.outerHTML.slice(0, 90))""")
+        need(set(left) <= visited, f"on {page} Tab doesn't come by {set(left) - visited}")
+    print("screen: the key Tab comes by everything that can be used", flush=True)
+
+
+def run_sizes(program, folder, pictures):
+    room = make_room(program, folder, pictures)
+    browser = room.browser("anna", size="1280,800")
+    check_size(browser)
+    check_keyboard(browser)
+    check_stays(browser)
+    complaints = browser.complaints()
+    room.end()
+    need(not complaints, f"the browser complains: {complaints}")
