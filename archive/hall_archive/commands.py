@@ -1,6 +1,7 @@
 """The commands that need the database."""
 
 import io
+import json
 import logging
 import signal
 import sys
@@ -227,4 +228,34 @@ def verify(settings: Settings, word: str, _: str) -> int:
     except OSError as fault:
         raise BadSettings(f"{path}: {fault.strerror}") from fault
     print(f"{len(lines)} lines and {audits} fingerprints hold")
+    return 0
+
+
+# ---- the pages
+
+
+def serve(settings: Settings, _: str, __: str) -> int:
+    """Answers the pages on 127.0.0.1, behind the front alone."""
+    import uvicorn
+
+    from hall_archive.web import make_app
+
+    opened(settings)
+    uvicorn.run(
+        make_app(settings),
+        host="127.0.0.1",
+        port=settings.port,
+        log_level="warning",
+        access_log=False,
+        server_header=False,
+        proxy_headers=False,
+    )
+    return 0
+
+
+def openapi(settings: Settings, _: str, __: str) -> int:
+    """Prints the description of what `serve` answers."""
+    from hall_archive.web import make_app
+
+    print(json.dumps(make_app(settings).openapi(), indent=1))
     return 0

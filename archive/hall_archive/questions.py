@@ -70,7 +70,7 @@ class Books:
                     goods[product].put(day, tare)
         return goods
 
-    def batches(self, book: int, goods: dict[str, Goods]) -> dict[int, Batch]:
+    def batches_of(self, book: int, goods: dict[str, Goods]) -> dict[int, Batch]:
         """The batches of a book without their packs, by the row of their opening."""
         batches: dict[int, Batch] = {}
         for row, line in self.ask(
@@ -93,7 +93,7 @@ class Books:
     def register(self, book: int) -> Iterator[str]:
         """The register of a book, line by line."""
         goods = self.goods(book)
-        batches = self.batches(book, goods)
+        batches = self.batches_of(book, goods)
         known: dict[tuple[int, int], tuple[str, str, int, rules.Limits]] = {}
         yield REGISTER_HEAD
         statement = f"""
@@ -125,7 +125,7 @@ class Books:
         if not found:
             return None
         row, first, last = found[0]
-        batch = self.batches(book, self.goods(book))[row]
+        batch = self.batches_of(book, self.goods(book))[row]
         self.add_packs(book, batch, first, last)
         self.add_acts(book, batch)
         return batch

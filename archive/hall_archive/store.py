@@ -27,10 +27,11 @@ CHUNK = 8_192
 WEIGHINGS = """
     SELECT row, by, lane, gross, prior, signal FROM pack
     WHERE book = %d AND row > %d AND row <= %d ORDER BY row"""
+# by the range of each open batch, so that the closed ones cost nothing
 OPEN_WEIGHINGS = """
-    SELECT p.row, p.by, p.lane, p.gross, p.prior, p.signal FROM pack p
-    WHERE p.book = %d AND p.row > %d AND p.row <= %d AND p.batch IN (
-        SELECT b.row FROM batch b WHERE b.book = p.book AND b.state <> 'closed')
+    SELECT p.row, p.by, p.lane, p.gross, p.prior, p.signal FROM batch b
+    JOIN pack p ON p.book = b.book AND p.row BETWEEN b.first AND b.last AND p.batch = b.row
+    WHERE b.book = %d AND p.row > %d AND p.row <= %d AND b.state <> 'closed' AND b.first > 0
     ORDER BY p.row"""
 
 
