@@ -9,14 +9,13 @@ usage: hall-archive [--settings PATH] COMMAND
     sheet BOOK BATCH      prints the sheet of a batch, as `hall report --batch`
     check BOOK            compares the register and each sheet with those of a book at rest
     verify BOOK           compares the witness with the book, line by line
-    stamp BOOK            has the newest line of the witness stamped by an authority
     serve                 answers the pages, for its service
     read                  answers one question of standard input, for hall-archive-read
     openapi               prints the description of what `serve` answers
 
 BOOK is a name of the settings, as 2026-12, or HALL/NAME where several halls have one of it.
-Status 1: something differs, or is another book; 2: the words or the settings are faulty; 3: the
-database or the program `hall` didn't answer."""
+Status 1: something differs; 2: the words or the settings are faulty; 3: the database or the program
+`hall` didn't answer; 5: the book isn't the one that was followed so far."""
 
 import argparse
 import logging
@@ -28,7 +27,7 @@ from hall_archive.following import OtherBook, Unkept
 from hall_archive.settings import BadSettings, Settings
 
 Command = Callable[[Settings, str, str], int]
-DIFFERS, FAULTY, UNANSWERED = 1, 2, 3
+FAULTY, UNANSWERED, OTHER = 2, 3, 5
 
 
 def words_of(arguments: list[str]) -> argparse.Namespace:
@@ -67,7 +66,7 @@ def by_database(name: str) -> Command:
     return run
 
 
-OF_A_BOOK = ("follow", "take", "register", "sheet", "check", "verify", "stamp")
+OF_A_BOOK = ("follow", "take", "register", "sheet", "check", "verify")
 COMMANDS: dict[str, Command] = {
     "read": read_one,
     **{name: by_database(name) for name in ("migrate", "serve", "openapi", *OF_A_BOOK)},
@@ -87,7 +86,7 @@ def main(arguments: list[str]) -> int:
         return UNANSWERED
     except OtherBook as fault:
         print(f"hall-archive: {fault}", file=sys.stderr)
-        return DIFFERS
+        return OTHER
 
 
 if __name__ == "__main__":

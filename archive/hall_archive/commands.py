@@ -53,7 +53,7 @@ def migrate(settings: Settings, _: str, __: str) -> int:
 
 
 def follow(settings: Settings, word: str, _: str) -> int:
-    """Follows a running book until a signal ends it. Status 1 where it is another book."""
+    """Follows a running book until a signal ends it."""
     book = book_of(settings, word)
     if not book.door:
         raise BadSettings(f"{book.name} has no door in the settings")
@@ -70,7 +70,9 @@ def follow(settings: Settings, word: str, _: str) -> int:
     finally:
         following.stop.set()
         thread.join()
-    return 1 if following.other else 0
+    if following.other:
+        raise OtherBook(following.other)
+    return 0
 
 
 def beside(

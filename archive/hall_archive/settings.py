@@ -8,10 +8,6 @@
     books = "/var/lib/hall"
     port = 8490                          # where the pages ask, on 127.0.0.1
 
-    [stamp]                              # may be absent: stamps of an authority (RFC 3161)
-    url = "http://tsa.example/"
-    certificates = "/etc/hall/tsa.crt"
-
     [days]                               # may be absent: until evidence is too old
     scale = 1
     tare = 90
@@ -35,7 +31,7 @@ PORT = 8_490
 LAST_PORT = 65_535
 # Days until evidence is too old, where the settings don't say.
 DAYS = {"scale": 1, "tare": 90, "density": 30, "uncertainty": 365}
-KEYS = {"database", "folder", "front", "read", "program", "books", "port", "stamp", "days", "book"}
+KEYS = {"database", "folder", "front", "read", "program", "books", "port", "days", "book"}
 
 
 class BadSettings(ValueError):
@@ -62,8 +58,6 @@ class Settings:
     program: str
     books: str
     port: int
-    stamp_url: str
-    stamp_certificates: str
     days: dict[str, int]
     followed: tuple[BookSettings, ...]
 
@@ -122,8 +116,7 @@ def read_settings(text: str) -> Settings:
     except tomllib.TOMLDecodeError as fault:
         raise BadSettings(f"no TOML: {fault}") from fault
     only(table, KEYS, "the file")
-    stamp, days = table.get("stamp", {}), table.get("days", {})
-    only(stamp, {"url", "certificates"}, "[stamp]")
+    days = table.get("days", {})
     only(days, set(DAYS), "[days]")
     followed = tuple(map(book_of, table.get("book", [])))
     names = [(one.hall, one.name) for one in followed]
@@ -138,8 +131,6 @@ def read_settings(text: str) -> Settings:
         program=text_of(table, "program", ""),
         books=text_of(table, "books", "/var/lib/hall"),
         port=number_of(table, "port", PORT, LAST_PORT),
-        stamp_url=text_of(stamp, "url", ""),
-        stamp_certificates=text_of(stamp, "certificates", ""),
         days={kind: number_of(days, kind, most, 36_500) for kind, most in DAYS.items()},
         followed=followed,
     )
