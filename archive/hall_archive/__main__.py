@@ -7,6 +7,7 @@ usage: hall-archive [--settings PATH] COMMAND
     take BOOK             takes in a book at rest, behind what is there, and checks it whole
     register BOOK         prints the register, byte for byte as `hall export`
     sheet BOOK BATCH      prints the sheet of a batch, as `hall report --batch`
+    story BOOK BATCH      prints the acts of a batch: when, who, what and why
     check BOOK            compares the register and each sheet with those of a book at rest
     verify BOOK           compares the witness with the book, line by line
     serve                 answers the pages, for its service
@@ -42,7 +43,7 @@ def words_of(arguments: list[str]) -> argparse.Namespace:
     parser.add_argument("book", nargs="?", default="")
     parser.add_argument("batch", nargs="?", default="")
     words = parser.parse_args(arguments)
-    wanted = 1 + (words.command in OF_A_BOOK) + (words.command == "sheet")
+    wanted = 1 + (words.command in OF_A_BOOK) + (words.command in OF_A_BATCH)
     given = 1 + bool(words.book) + bool(words.batch)
     if wanted != given:
         parser.error(f"{words.command} takes {wanted - 1} words, not {given - 1}")
@@ -66,7 +67,8 @@ def by_database(name: str) -> Command:
     return run
 
 
-OF_A_BOOK = ("follow", "take", "register", "sheet", "check", "verify")
+OF_A_BATCH = ("sheet", "story")
+OF_A_BOOK = ("follow", "take", "register", "check", "verify", *OF_A_BATCH)
 COMMANDS: dict[str, Command] = {
     "read": read_one,
     **{name: by_database(name) for name in ("migrate", "serve", "openapi", *OF_A_BOOK)},

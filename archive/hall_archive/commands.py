@@ -25,8 +25,9 @@ from hall_archive.service import (
     Witnessing,
 )
 from hall_archive.settings import BadSettings, BookSettings, Settings
+from hall_archive.search import Search
 from hall_archive.store import Store
-from hall_archive.witness import Witness
+from hall_archive.witness import Witness, utc_text
 
 log = logging.getLogger("hall-archive")
 
@@ -190,6 +191,40 @@ def sheet(settings: Settings, word: str, batch: str) -> int:
         return 1
     print(nets.sheet(found), end="")
     return 0
+
+
+def story(settings: Settings, word: str, batch: str) -> int:
+    """Prints the acts of a batch and the tares of its product, and how many packs came between
+    them: when, who, what, why."""
+    books, number, book = found_book(settings, word)
+    found = books.batch(number, batch)
+    if found is None:
+        print(f"hall-archive: no batch {batch} is known", file=sys.stderr)
+        return 1
+    search = Search(books.engine)
+    acts = search.acts(book.hall, book=book.name, batch=batch)
+    tares = search.acts(book.hall, book=book.name, product=found.goods.name, kind="tare")
+    until = acts[-1]["row"]
+    acts += [act for act in tares if act["row"] < until or found.state != "closed"]
+    acts.sort(key=lambda act: int(act["row"]))
+    rows = iter(found.packs)
+    held = next(rows, None)
+    for act in acts:
+        count = 0
+        while held is not None and held < act["row"]:
+            count, held = count + 1, next(rows, None)
+        if count:
+            print(f"    {count} packs")
+        print(story_line(act))
+    return 0
+
+
+def story_line(act: dict[str, Any]) -> str:
+    """An act in a line: its hour in UTC, its row and answer, who asked, what, and why."""
+    answer, by, asked = act["line"].split("\t")
+    who = act["person"] or by
+    reason = f" ({act['reason']})" if act["reason"] else ""
+    return f"{utc_text(act['high'])}  {answer}  {who}  {asked}{reason}"
 
 
 def check(settings: Settings, word: str, _: str) -> int:

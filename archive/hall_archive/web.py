@@ -105,9 +105,9 @@ def add_questions(app: Any, search: Search, halls: Halls) -> None:
         after: int = After,
     ) -> Any:
         """Packs of a book, behind row `after`; `signal` may be `reject` for every reject."""
-        given = {"batch": batch, "product": product, "signal": signal, "pile": pile}
-        more = {"lane": lane, "low": low, "high": high, "after": after}
-        return search.packs(halls.of(x_book), book, **given, **more)
+        given: dict[str, Any] = {"batch": batch, "product": product, "signal": signal, "pile": pile}
+        given |= {"lane": lane, "low": low, "high": high, "after": after}
+        return search.packs(halls.of(x_book), book, **given)
 
     @app.get("/packs/{book}/{row}")  # type: ignore[misc]
     def story(book: str, row: int = Row, x_book: str = Front) -> Any:

@@ -98,7 +98,7 @@ class Chain(unittest.TestCase):
         for place in range(3):
             for field in Record._fields:
                 records = self.records()
-                value = 7 if field == "moment" else "other"
+                value: Any = 7 if field == "moment" else "other"
                 records[place] = records[place]._replace(**{field: value})
                 self.assertEqual(first_broken(records), place + 1, field)
             records = self.records()

@@ -4,7 +4,9 @@ is another book."""
 import itertools
 import os
 import tempfile
+import time
 import unittest
+from unittest import mock
 
 from doors import FakeDoor
 from memory_archive import MemoryArchive
@@ -13,6 +15,7 @@ from small_book import LINES, long_book
 from hall_archive import following
 from hall_archive.clock import Moment
 from hall_archive.following import Behind, Door, Follower, OtherBook, Spool, Unanswered
+from hall_archive.rows import PAGE_ROWS
 
 
 class Following(unittest.TestCase):
@@ -243,12 +246,9 @@ class Waiting(unittest.TestCase):
 
     def test_wait(self) -> None:
         slept: list[float] = []
-        sleep, following.time.sleep = following.time.sleep, slept.append
-        try:
-            following.wait(following.PAGE_ROWS, 0.0)
-            following.wait(1, following.time.monotonic() + 1)
-            following.wait(0, following.time.monotonic() - 1)
-        finally:
-            following.time.sleep = sleep
+        with mock.patch("time.sleep", slept.append):
+            following.wait(PAGE_ROWS, 0.0)
+            following.wait(1, time.monotonic() + 1)
+            following.wait(0, time.monotonic() - 1)
         self.assertAlmostEqual(slept[0], 1 + following.EVERY, delta=0.5)
         self.assertEqual(slept[1:], [0.0])

@@ -70,13 +70,14 @@ class Ties(unittest.TestCase):
     def test_ties(self) -> None:
         self.assertEqual(self.fault(13, 2), "")
         self.assertEqual(self.fault(4, 1, act="open_at"), "")
-        for row, request, more in (
+        cases: list[tuple[int, int, dict[str, object]]] = [
             (13, 3, {}),
             (13, 2, {"desk": 102}),
             (13, 2, {"act": "tare"}),
             (14, 2, {}),
             (400, 2, {}),
-        ):
+        ]
+        for row, request, more in cases:
             self.assertNotEqual(self.fault(row, request, **more), "")
 
     def test_rows_that_arent_taken_yet_wait(self) -> None:
