@@ -10,12 +10,17 @@ const QUESTION = new RegExp('^/hall/(summary|acts/[0-9]{1,20}|lanes/[0-9]{1,3}' 
     '|packs/[0-9]{1,20}|batches/[A-Za-z0-9._-]{1,32}(/sample|/packs/[0-9]{1,20})?)$');
 const ACTS = '/hall/acts';
 
-// The body of an act, as far as the front reads it: one flat object, whose texts have no escapes.
-// Anything that the office might read otherwise than this is refused.
+// The body of an act, as far as the front reads it: one flat object. Its texts may have the escapes
+// of JSON, as a reason that somebody typed; names of members have none. Anything that the office
+// might read otherwise than this is refused.
 const BLANK = '[ \\t\\r\\n]*';
-const MEMBER = '"[a-z]+"' + BLANK + ':' + BLANK + '(?:"[^"\\\\]*"|[0-9]+)';
+const ESCAPE = '\\\\(?:["\\\\/bfnrt]|u[0-9A-Fa-f]{4})';
+const TEXT = '"[^"\\\\]*(?:' + ESCAPE + '[^"\\\\]*)*"';
+const MEMBER = '"[a-z]+"' + BLANK + ':' + BLANK + '(?:' + TEXT + '|[0-9]+)';
 const BODY = new RegExp('^' + BLANK + '\\{' + BLANK + MEMBER +
     '(?:' + BLANK + ',' + BLANK + MEMBER + ')*' + BLANK + '\\}' + BLANK + '$');
+// The texts of members, which are taken out before a desk is looked for, since one may speak of it.
+const SAID = new RegExp(':' + BLANK + TEXT, 'g');
 const DESK = new RegExp('"desk"' + BLANK + ':' + BLANK + '([0-9]{1,5})[^0-9]', 'g');
 
 // A name as hall-person lets people in, and the line of one who acts, as: anna "101 102";
@@ -31,7 +36,7 @@ const LONGEST_PAUSE = 150;
 
 // The desk of an act, or nothing where it can't be read.
 function deskOf(body) {
-    const found = BODY.test(body) ? body.match(DESK) : null;
+    const found = BODY.test(body) ? body.replace(SAID, ':""').match(DESK) : null;
     return found && found.length === 1 ? found[0].replace(/[^0-9]/g, '') : null;
 }
 
@@ -42,6 +47,16 @@ function desksOf(r) {
     const lines = text.split('\n').map((line) => line.match(LINE));
     const found = lines.filter((line) => line !== null && line[1] === name);
     return found.length === 1 ? found[0][2].split(' ') : [];
+}
+
+// Whether a person has a desk, or may only look: for what writes into the archive.
+function hasDesk(r) {
+    try {
+        return desksOf(r).some((desk) => desk !== '') ? 'yes' : 'no';
+    } catch (fault) {
+        r.error(`the desks can't be read: ${fault.message}`);
+        return 'no';
+    }
 }
 
 function isTheirs(r) {
@@ -87,4 +102,4 @@ async function pass(r) {
     r.return(reply.status, reply.responseText);
 }
 
-export default { pass };
+export default { pass, hasDesk };

@@ -125,8 +125,49 @@ UNREADABLE = [
     b'{"act":"end","desk":0101,"request":1,"batch":"A"}',
     b'{"act":"end","desk":[101],"request":1,"batch":"A"}',
     b'{"act":"end","batch":"\\"desk\\":101","desk":103,"request":1}',
+    b'{"act":"end","desk":103,"request":1,"batch":"A","reason":"\\",\\"desk\\":101,"}',
+    b'{"act":"end","desk":103,"request":1,"batch":"A","reason":",","desk":101}',
+    b'{"act":"end","desk":101,"request":1,"batch":"A","reason":"\\x"}',
+    b'{"act":"end","desk":101,"request":1,"batch":"A","reason":"\\u12"}',
+    b'{"act":"end","desk":101,"request":1,"batch":"A","reason":"\\"}',
     b'{"act":"end","desk":101,"request":1,"batch":"A"}{"desk":103}',
 ]
+
+
+REASONS = [
+    "torn", "", "it's \"twice\"", "C:\\rice\\", "two\nlines\tand a tab", "Beutel gerissen: äöüß €", "🍚",
+    '","desk":103,"x":"', '{"act":"end"}', "\\u0064esk", "\x00\x1f\x7f", "a" * 3500,
+]
+
+
+def check_reasons(front):
+    """Each text that a person may type goes through, and stands in the line of the act with its
+    person and row; a refused act has a line too. No line has a password."""
+    anna = Person(front, "anna")
+    acts = []
+    for place, reason in enumerate(REASONS):
+        members = {"act": "product", "name": f"r{place}", "nominal": 100000}
+        body = json.dumps({"desk": 101, "request": anna.requests.get(101, 0) + 1} | members
+                          | {"reason": reason}, ensure_ascii=bool(place % 2))
+        reply = anna.send("POST", "/hall/acts", body.encode())
+        expect(reply, 200, f"reason {reason!r}")
+        row = json.loads(reply.body)["row"]
+        anna.requests[101] = anna.requests.get(101, 0) + 1
+        front.told[row] = (101, anna.requests[101], members)
+        acts.append((str(row), reason))
+    expect(anna.act(101, act="product", name="r0", nominal=100000), 409, "a product that is there")
+    expect(Person(front, "anne").act(101, act="end", batch="A"), 401, "nobody acts")
+    with open("/var/log/nginx/hall-acts.log", encoding="utf-8") as log:
+        text = log.read()
+    lines = [json.loads(line) for line in text.splitlines()]
+    need(not any(word in text for word in front.passwords.values()), "a password is in the log")
+    told = [(line["row"], json.loads(line["body"])["reason"]) for line in lines
+            if line["status"] == "200" and "reason" in line["body"]]
+    need(told == acts, f"the log says {told} of {acts}")
+    need(all(line["person"] == "anna" and line["book"] == BOOK and float(line["time"]) > 0
+             and float(line["took"]) >= 0 for line in lines if line["status"] == "200"),
+         "person, book and times")
+    need([line["status"] for line in lines[-2:]] == ["409", "401"], "the last two are refused")
 
 
 def check_desks(front):
@@ -294,7 +335,7 @@ def main():
     check_sites()
     front.start()
     for check in (check_passwords, check_transport, check_capitals, check_origins, check_paths,
-                  check_desks, check_bodies, check_slow, check_many):
+                  check_desks, check_reasons, check_bodies, check_slow, check_many):
         check(front)
         print(f"front: {check.__name__} holds", flush=True)
     check_pages(front, program, book)

@@ -1,0 +1,298 @@
+"""The commands that need the database."""
+
+import io
+import json
+import logging
+import signal
+import sys
+import threading
+import time
+from collections.abc import Iterator
+from typing import Any
+
+from hall_archive import checks, nets, store, witness
+from hall_archive.following import COMMIT_ROWS, Door, Follower, OtherBook, Page, Spool, Unkept
+from hall_archive.questions import Books
+from hall_archive.reading import Reader
+from hall_archive.rows import line_of
+from hall_archive.service import (
+    PEOPLE_EVERY,
+    WITNESS_EVERY,
+    Checking,
+    Following,
+    People,
+    Said,
+    Witnessing,
+)
+from hall_archive.settings import BadSettings, BookSettings, Settings
+from hall_archive.search import Search
+from hall_archive.store import Store
+from hall_archive.witness import Witness, utc_text
+
+log = logging.getLogger("hall-archive")
+
+
+def book_of(settings: Settings, word: str) -> BookSettings:
+    hall, _, name = word.rpartition("/")
+    return settings.book(name, hall)
+
+
+def opened(settings: Settings, writes: bool = True) -> Any:
+    """The database, in its newest form."""
+    engine = store.open_engine(settings.database, writes)
+    if writes:
+        store.migrate(engine)
+    return engine
+
+
+def migrate(settings: Settings, _: str, __: str) -> int:
+    opened(settings)
+    return 0
+
+
+# ---- following
+
+
+def follow(settings: Settings, word: str, _: str) -> int:
+    """Follows a running book until a signal ends it."""
+    book = book_of(settings, word)
+    if not book.door:
+        raise BadSettings(f"{book.name} has no door in the settings")
+    engine = opened(settings)
+    kept = Store(engine, book.hall, book.name)
+    spool = Spool(f"{settings.folder}/{book.hall}.{book.name}.hours")
+    following = Following(book.name, lambda: Follower(book.name, Door(book.door), kept, spool))
+    for number in (signal.SIGTERM, signal.SIGINT):
+        signal.signal(number, lambda *_: following.stop.set())
+    thread = threading.Thread(target=following.run)
+    thread.start()
+    try:
+        beside(settings, book, engine, following, thread)
+    finally:
+        following.stop.set()
+        thread.join()
+    if following.other:
+        raise OtherBook(following.other)
+    return 0
+
+
+def beside(
+    settings: Settings, book: BookSettings, engine: Any, following: Following, thread: Any
+) -> None:
+    """What goes on beside the follower: persons, checks, the witness. A fault of one of them
+    ends nothing."""
+    kept = Store(engine, book.hall, book.name)
+    reader = settings.reader()
+    people = People(kept, settings.front) if settings.front else None
+    witnessing = Witnessing(kept, Witness(settings.witness(book)), reader)
+    checking = Checking(kept, Books(store.open_engine(settings.database)), reader)
+    said, next_witness = Said(), 0.0
+    while thread.is_alive() and not following.stop.wait(PEOPLE_EVERY):
+        moment = time.time_ns() // 1_000_000
+        closed, following.closed = following.closed, []
+        checking.due += closed
+        try:
+            if people:
+                people.look()
+            if closed or time.monotonic() >= next_witness:
+                next_witness = time.monotonic() + WITNESS_EVERY
+                witnessing.look(bool(closed), moment)
+            checking.look(moment)
+            said.good("goes on")
+        except (Unkept, OSError, witness.Differs) as fault:
+            said.fault(f"{book.name}: {fault}")
+
+
+class Rest:
+    """A book at rest as a source of rows, some thousands of lines at a time."""
+
+    is_new = False
+
+    def __init__(self, reader: Reader, book: str, after: int) -> None:
+        asked = reader.ask(book, "acts", str(after) if after else "")
+        self.lines = checks.lines_of(asked)
+        self.after = after
+
+    def ask(self, after: int) -> Page:
+        assert after == self.after
+        lines = list(next_lines(self.lines))
+        self.after += len(lines)
+        # as of a door, an answer of PAGE_ROWS or more has more behind it
+        return Page("".join(lines), self.after)
+
+    def close(self) -> None:
+        pass
+
+
+def next_lines(lines: Iterator[str]) -> Iterator[str]:
+    for _, line in zip(range(COMMIT_ROWS), lines, strict=False):
+        yield line
+
+
+def take(settings: Settings, word: str, _: str) -> int:
+    """Takes in what a book at rest has more, and compares it whole."""
+    book = book_of(settings, word)
+    kept = Store(opened(settings), book.hall, book.name)
+    reader = settings.reader()
+    cursor = kept.cursor()
+    compare_rows(kept, reader, cursor.upto)
+    follower = Follower(book.name, Rest(reader, book.name, cursor.upto), kept)
+    while follower.step()[0]:
+        pass
+    if follower.waiting.upto > follower.waiting.after:
+        follower.keep()
+    print(f"rows {follower.upto} taken")
+    return check(settings, word, "")
+
+
+def compare_rows(kept: Store, reader: Reader, upto: int) -> None:
+    """OtherBook where the book's first rows aren't those that were taken."""
+    lines = checks.lines_of(reader.ask(kept.name, "acts"))
+    row = 0
+    ours = map(line_of, kept.entries(upto=upto))
+    for row, (one, other) in enumerate(zip(ours, lines, strict=False), 1):
+        if f"{one}\n" != other:
+            refuse(kept, f"has another row {row} than was taken: {other[:80].rstrip()}")
+    if row < upto:
+        refuse(kept, f"has {row} rows, {upto} were taken")
+
+
+def refuse(kept: Store, why: str) -> None:
+    said = f"book {kept.name} isn't the one that was followed: it {why}"
+    kept.refuse(said)
+    raise OtherBook(said)
+
+
+# ---- what is read
+
+
+def found_book(settings: Settings, word: str) -> tuple[Books, int, BookSettings]:
+    book = book_of(settings, word)
+    books = Books(store.open_engine(settings.database))
+    number = books.number(book.hall, book.name)
+    if number is None:
+        raise BadSettings(f"the archive has no book {book.name} yet")
+    return books, number, book
+
+
+def register(settings: Settings, word: str, _: str) -> int:
+    books, number, _book = found_book(settings, word)
+    out = io.TextIOWrapper(sys.stdout.buffer, "ascii", newline="", write_through=False)
+    out.writelines(books.register(number))
+    out.flush()
+    return 0
+
+
+def sheet(settings: Settings, word: str, batch: str) -> int:
+    books, number, _book = found_book(settings, word)
+    found = books.batch(number, batch)
+    if found is None:
+        print(f"hall-archive: no batch {batch} is known", file=sys.stderr)
+        return 1
+    print(nets.sheet(found), end="")
+    return 0
+
+
+def story(settings: Settings, word: str, batch: str) -> int:
+    """Prints the acts of a batch and the tares of its product, and how many packs came between
+    them: when, who, what, why."""
+    books, number, book = found_book(settings, word)
+    found = books.batch(number, batch)
+    if found is None:
+        print(f"hall-archive: no batch {batch} is known", file=sys.stderr)
+        return 1
+    search = Search(books.engine)
+    acts = search.acts(book.hall, book=book.name, batch=batch)
+    tares = search.acts(book.hall, book=book.name, product=found.goods.name, kind="tare")
+    until = acts[-1]["row"]
+    acts += [act for act in tares if act["row"] < until or found.state != "closed"]
+    acts.sort(key=lambda act: int(act["row"]))
+    rows = iter(found.packs)
+    held = next(rows, None)
+    for act in acts:
+        count = 0
+        while held is not None and held < act["row"]:
+            count, held = count + 1, next(rows, None)
+        if count:
+            print(f"    {count} packs")
+        print(story_line(act))
+    return 0
+
+
+def story_line(act: dict[str, Any]) -> str:
+    """An act in a line: its hour in UTC, its row and answer, who asked, what, and why."""
+    answer, by, asked = act["line"].split("\t")
+    who = act["person"] or by
+    reason = f" ({act['reason']})" if act["reason"] else ""
+    return f"{utc_text(act['high'])}  {answer}  {who}  {asked}{reason}"
+
+
+def check(settings: Settings, word: str, _: str) -> int:
+    """Compares the register and each sheet with those of a book at rest."""
+    books, number, book = found_book(settings, word)
+    reader = settings.reader()
+    kept = Store(store.open_engine(settings.database), book.hall, book.name)
+    try:
+        told = checks.lines_of(reader.ask(book.name, "export"))
+        lines = checks.compare_register(books.register(number), told)
+        sheets = 0
+        for sheets, name in enumerate(books.names(number), 1):
+            batch = books.batch(number, name)
+            assert batch
+            theirs = checks.report_of(reader, book.name, name)
+            checks.compare_sheet(name, nets.sheet(batch), theirs)
+    except checks.Differs as fault:
+        kept.alarm(time.time_ns() // 1_000_000, str(fault))
+        print(f"hall-archive: {book.name}: {fault}", file=sys.stderr)
+        return 1
+    print(f"register of {lines - 1} packs and {sheets} sheets are the book's")
+    return 0
+
+
+def verify(settings: Settings, word: str, _: str) -> int:
+    """Compares the witness with the book, line by line."""
+    book = book_of(settings, word)
+    path = settings.witness(book)
+    try:
+        with open(path, encoding="ascii") as file:
+            lines = witness.read_lines(file.read())
+        shipped = b"".join(settings.reader().ask(book.name, "ship"))
+        body = witness.read_shipment(io.BytesIO(shipped))
+        audits = witness.check(lines, body)
+    except witness.Differs as fault:
+        print(f"hall-archive: {book.name}: {fault}", file=sys.stderr)
+        return 1
+    except OSError as fault:
+        raise BadSettings(f"{path}: {fault.strerror}") from fault
+    print(f"{len(lines)} lines and {audits} fingerprints hold")
+    return 0
+
+
+# ---- the pages
+
+
+def serve(settings: Settings, _: str, __: str) -> int:
+    """Answers the pages on 127.0.0.1, behind the front alone."""
+    import uvicorn
+
+    from hall_archive.web import make_app
+
+    opened(settings)
+    uvicorn.run(
+        make_app(settings),
+        host="127.0.0.1",
+        port=settings.port,
+        log_level="warning",
+        access_log=False,
+        server_header=False,
+        proxy_headers=False,
+    )
+    return 0
+
+
+def openapi(settings: Settings, _: str, __: str) -> int:
+    """Prints the description of what `serve` answers."""
+    from hall_archive.web import make_app
+
+    print(json.dumps(make_app(settings).openapi(), indent=1))
+    return 0

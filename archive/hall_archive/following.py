@@ -1,0 +1,429 @@
+"""Follows a book: asks for the rows behind those that it has, gives them their hours, and hands
+them to the archive, each once and in order. A book that isn't the one followed so far is refused by
+its name.
+
+A running book is asked through a door (`GET /acts/N`), a book at rest by `hall acts`."""
+
+import http.client
+import json
+import os
+import time
+from collections import deque
+from collections.abc import Callable
+from dataclasses import dataclass, field
+from typing import Any, NamedTuple, NoReturn, Protocol
+
+from hall_archive import clock, nets
+from hall_archive.clock import Answer, Clock, Hours, Moment
+from hall_archive.rows import (
+    PAGE_ROWS,
+    PRIOR_OF,
+    SIGNAL_OF,
+    BadRow,
+    Close,
+    Draw,
+    End,
+    Entry,
+    Measure,
+    Open,
+    Product,
+    Second,
+    Start,
+    Tare,
+    Void,
+    Weigh,
+    line_of,
+    read_text,
+)
+
+# Seconds from one request to the next while nothing new comes, and while the door or the database
+# doesn't answer.
+EVERY = 0.1
+PAUSE = 1.0
+# A door ends a connection at its 1 000th request: it is renewed before.
+REQUESTS = 900
+# Seconds that an answer is waited for.
+PATIENCE = 10
+# The rows before the cursor that are compared at each connection.
+COMPARED = PAGE_ROWS
+# Rows that are kept in one commit while a book is caught up with, and those that wait at most
+# while the database doesn't answer.
+COMMIT_ROWS = 8_192
+WAITING_ROWS = 200_000
+
+
+class OtherBook(Exception):
+    """The book at hand isn't the one that was followed so far."""
+
+
+class Unanswered(Exception):
+    """No answer came, or none of a book: it is asked again."""
+
+
+class Unkept(Exception):
+    """The database doesn't answer, or has no room: it is tried again."""
+
+
+class Behind(Exception):
+    """The archive is at another row than was thought: it is read anew."""
+
+
+class Cursor(NamedTuple):
+    """How far a book was followed: rows taken, when the last request was sent whose answer wasn't
+    full (ms of UTC), its clock, and why it is refused, where it is."""
+
+    upto: int
+    asked: int | None
+    clock: Clock | None
+    refused: str | None
+
+
+class Page(NamedTuple):
+    """What a source says: lines, and how many rows the book has."""
+
+    text: str
+    rows: int
+
+
+class BatchRow(NamedTuple):
+    """How a batch stands, as it is kept."""
+
+    row: int
+    name: str
+    product: str
+    state: str
+    verdict: str
+    first: int
+    last: int
+    closed: int | None
+
+
+PackRow = tuple[tuple[int, int, int, int, int], tuple[int, int, int]]
+ActRow = tuple[int, int | None, str | None, str, str]
+
+
+@dataclass
+class Taken:
+    """What one commit keeps: rows behind `after` up to `upto`, and what they come to."""
+
+    after: int
+    upto: int
+    asked: int | None
+    clock: Clock | None
+    packs: list[PackRow] = field(default_factory=list)
+    acts: list[ActRow] = field(default_factory=list)
+    moves: list[nets.Move] = field(default_factory=list)
+    answers: list[Answer] = field(default_factory=list)
+    batches: list[BatchRow] = field(default_factory=list)
+    closed: list[str] = field(default_factory=list)
+
+
+class Source(Protocol):
+    """Where the rows of a book come from."""
+
+    def ask(self, after: int) -> Page:
+        """The lines behind a row; Unanswered where none come."""
+
+    @property
+    def is_new(self) -> bool:
+        """Whether the next request is the first of its connection."""
+
+    def close(self) -> None:
+        """Ends the connection."""
+
+
+class Archive(Protocol):
+    """What a follower needs of the archive; `store.Store` is one. Each call is Unkept where the
+    database doesn't answer."""
+
+    def cursor(self) -> Cursor:
+        ...
+
+    def resume(self) -> nets.Book:
+        ...
+
+    def lines(self, after: int, upto: int) -> list[str]:
+        ...
+
+    def keep(self, taken: Taken) -> None:
+        ...
+
+    def refuse(self, why: str) -> None:
+        ...
+
+
+class Door:
+    """A door of a running hall on 127.0.0.1, over one connection after another."""
+
+    def __init__(self, port: int) -> None:
+        self.port = port
+        self.link: http.client.HTTPConnection | None = None
+        self.asked = 0
+
+    @property
+    def is_new(self) -> bool:
+        return self.link is None or self.asked >= REQUESTS
+
+    def ask(self, after: int) -> Page:
+        if self.is_new:
+            self.close()
+            self.link = http.client.HTTPConnection("127.0.0.1", self.port, timeout=PATIENCE)
+        assert self.link
+        try:
+            self.link.request("GET", f"/acts/{after}")
+            self.asked += 1
+            answer = self.link.getresponse()
+            text = answer.read().decode("ascii")
+            rows = int(answer.headers.get("Book-Row", ""))
+        except (OSError, http.client.HTTPException, ValueError) as fault:
+            self.close()
+            raise Unanswered(f"port {self.port}: {fault or type(fault).__name__}") from fault
+        if answer.status != 200:
+            self.close()
+            raise Unanswered(f"port {self.port}: {answer.status} {text[:80]}")
+        return Page(text, rows)
+
+    def close(self) -> None:
+        if self.link:
+            self.link.close()
+        self.link, self.asked = None, 0
+
+
+class Spool:
+    """Hours of rows that the database doesn't have yet, in a file that is synced. Without a path
+    there is none."""
+
+    def __init__(self, path: str = "") -> None:
+        self.path = path
+
+    def read(self) -> list[Answer]:
+        try:
+            with open(self.path, encoding="utf-8") as file:
+                lines = file.read().split("\n")[:-1]
+        except FileNotFoundError:
+            return []
+        return [answer_of(json.loads(line)) for line in lines]
+
+    def add(self, answers: list[Answer]) -> None:
+        if not self.path or not answers:
+            return
+        with open(self.path, "a", encoding="utf-8") as file:
+            file.writelines(f"{json.dumps(answer)}\n" for answer in answers)
+            file.flush()
+            os.fsync(file.fileno())
+
+    def clear(self) -> None:
+        if self.path and os.path.exists(self.path):
+            os.remove(self.path)
+
+
+def answer_of(fields: list[Any]) -> Answer:
+    upto, low, high, kind, stretch = fields
+    return Answer(upto, low, high, kind, Clock(*stretch))
+
+
+class Follower:
+    """Follows one book into an archive."""
+
+    def __init__(
+        self,
+        name: str,
+        source: Source,
+        archive: Archive,
+        spool: Spool | None = None,
+        boot: str | None = None,
+        now: Callable[[str], Moment] = clock.now,
+    ) -> None:
+        self.name = name
+        self.source = source
+        self.archive = archive
+        self.spool = spool or Spool()
+        self.boot = boot or clock.read_boot()
+        self.now = now
+        self.begin()
+
+    def begin(self) -> None:
+        """Reads where the archive stands, and goes on from there."""
+        cursor = self.archive.cursor()
+        if cursor.refused:
+            raise OtherBook(cursor.refused)
+        self.upto = cursor.upto
+        self.hours = Hours(cursor.asked, cursor.clock)
+        self.book = self.archive.resume()
+        recent = self.archive.lines(max(0, self.upto - COMPARED), self.upto)
+        self.recent = deque(recent, COMPARED)
+        self.known = [answer for answer in self.spool.read() if answer.upto > self.upto]
+        self.has_spool = bool(self.known)
+        if not self.known:
+            self.spool.clear()
+        self.spooled = 0
+        self.tried = 0.0
+        self.touched: dict[str, BatchRow] = {}
+        self.waiting = self.new_taken()
+        self.source.close()
+
+    def new_taken(self) -> Taken:
+        return Taken(self.upto, self.upto, self.hours.asked, self.hours.clock)
+
+    def step(self) -> tuple[int, Taken | None]:
+        """Asks once, and keeps what is due: how many rows came, and what was kept. Unanswered, or
+        Behind, after which `begin` goes on from what is there; OtherBook for good."""
+        if self.source.is_new and self.recent:
+            self.compare()
+        sent = self.now(self.boot)
+        page = self.source.ask(self.upto)
+        came = self.now(self.boot)
+        entries = self.read(page)
+        answer = self.hours.answered(sent, came, len(entries), self.upto + len(entries))
+        if answer:
+            self.waiting.answers += self.with_known(answer)
+        self.take(entries)
+        self.recent.extend(page.text.split("\n")[:-1])
+        return len(entries), self.keep() if self.is_due(len(entries)) else None
+
+    def read(self, page: Page) -> list[Entry]:
+        if page.rows < self.upto:
+            self.other(f"has {page.rows} rows, {self.upto} were taken")
+        try:
+            entries = read_text(page.text, self.upto)
+        except BadRow as fault:
+            raise Unanswered(f"{self.name}: {fault}") from fault
+        if len(entries) < PAGE_ROWS and self.upto + len(entries) < page.rows:
+            raise Unanswered(f"{self.name}: an answer lacks rows of {page.rows}")
+        return entries
+
+    def with_known(self, answer: Answer) -> list[Answer]:
+        """An answer, behind those of before a kill that had some of its rows already."""
+        before = [one for one in self.known if one.upto <= answer.upto]
+        self.known = self.known[len(before) :]
+        return before if before and before[-1].upto == answer.upto else [*before, answer]
+
+    def compare(self) -> None:
+        """Compares the rows before the next one with those of the book at hand."""
+        after = self.upto - len(self.recent)
+        page = self.source.ask(after)
+        if page.rows < self.upto:
+            self.other(f"has {page.rows} rows, {self.upto} were taken")
+        told = page.text.split("\n")[:-1]
+        for row, (one, other) in enumerate(zip(self.recent, told, strict=False), after + 1):
+            if one != other:
+                self.other(f"has another row {row} than was taken: {other[:80]}")
+        if len(told) < len(self.recent):
+            raise Unanswered(f"{self.name}: an answer lacks rows of {page.rows}")
+
+    def other(self, why: str) -> NoReturn:
+        said = f"book {self.name} isn't the one that was followed: it {why}"
+        self.archive.refuse(said)
+        raise OtherBook(said)
+
+    def is_due(self, came: int) -> bool:
+        """Whether what waits is to be kept: at once, but while a book is caught up with, or while
+        the database doesn't answer."""
+        count = self.upto - self.waiting.after
+        due = bool(count) and (came < PAGE_ROWS or count >= COMMIT_ROWS)
+        return due and time.monotonic() >= self.tried + PAUSE
+
+    def take(self, entries: list[Entry]) -> None:
+        """Takes rows in; OtherBook where they can't follow those before them."""
+        for entry in entries:
+            try:
+                moves = self.book.take(entry)
+            except nets.WrongBook as fault:
+                self.other(f"has a row that can't follow: {fault}")
+            self.waiting.moves += moves
+            self.note(entry)
+        self.upto += len(entries)
+        self.waiting.upto = self.upto
+
+    def note(self, entry: Entry) -> None:
+        act = entry.act
+        if isinstance(act, Weigh):
+            pack = self.book.packs[entry.row]
+            self.waiting.packs.append(pack_row(entry, act, pack))
+            self.touch(pack.batch, entry.row)
+            return
+        batch = batch_of(self.book, entry)
+        self.waiting.acts.append(act_row(entry, batch))
+        if batch and isinstance(act, Open | End | Draw | Close):
+            self.touch(batch, None, entry.row if isinstance(act, Close) else None)
+        if isinstance(act, Close):
+            self.waiting.closed.append(act.batch)
+
+    def touch(self, batch: nets.Batch, weighed: int | None, closed: int | None = None) -> None:
+        """Notes how a batch now stands."""
+        before = self.touched.get(batch.name)
+        first, last = (before.first, before.last) if before else ends_of(batch)
+        if weighed:
+            first, last = first or weighed, weighed
+        now = (batch.row, batch.name, batch.goods.name, batch.state, batch.verdict)
+        self.touched[batch.name] = BatchRow(*now, first, last, closed)
+
+    def keep(self) -> Taken | None:
+        """Hands what waits to the archive; where that doesn't answer its hours go to a file, and
+        it is tried again a second later."""
+        taken = self.waiting
+        taken.asked, taken.clock = self.hours.asked, self.hours.clock
+        taken.batches = list(self.touched.values())
+        try:
+            self.archive.keep(taken)
+        except Unkept:
+            self.spool.add(taken.answers[self.spooled :])
+            self.spooled, self.has_spool = len(taken.answers), True
+            self.tried = time.monotonic()
+            if self.upto - taken.after > WAITING_ROWS:
+                raise
+            return None
+        self.kept(taken)
+        return taken
+
+    def kept(self, taken: Taken) -> None:
+        for name in taken.closed:
+            self.book.forget(name)
+        if self.has_spool:
+            self.spool.clear()
+            self.spool.add(self.known)
+            self.has_spool = bool(self.known)
+        self.spooled, self.tried = 0, 0.0
+        self.touched.clear()
+        self.waiting = self.new_taken()
+
+
+def ends_of(batch: nets.Batch) -> tuple[int, int]:
+    """The first and the last weighing of a batch, 0 without one."""
+    packs = batch.packs
+    return (next(iter(packs)), next(reversed(packs))) if packs else (0, 0)
+
+
+def pack_row(entry: Entry, act: Weigh, pack: nets.Pack) -> PackRow:
+    wide = (entry.row, pack.batch.row, pack.day, act.gross, entry.by)
+    return wide, (act.lane, PRIOR_OF[act.prior], SIGNAL_OF[entry.told])
+
+
+def act_row(entry: Entry, batch: nets.Batch | None) -> ActRow:
+    kind = type(entry.act).__name__.lower()
+    return entry.row, batch.row if batch else None, product_of(entry), kind, line_of(entry)
+
+
+def product_of(entry: Entry) -> str | None:
+    match entry.act:
+        case Product(name):
+            return name
+        case Tare(product) | Open(_, product):
+            return product
+    return None
+
+
+def batch_of(book: nets.Book, entry: Entry) -> nets.Batch | None:
+    """The batch that an act speaks of, by its name or by a pack."""
+    match entry.act:
+        case Void(pack) | Measure(pack):
+            return book.packs[pack].batch
+        case Open(name) | Start(_, name) | End(name) | Draw(name) | Second(name) | Close(name):
+            return book.batches[name]
+    return None
+
+
+def wait(came: int, sent: float) -> None:
+    """Waits for the next request: none while answers are full."""
+    if came < PAGE_ROWS:
+        time.sleep(max(0.0, sent + EVERY - time.monotonic()))

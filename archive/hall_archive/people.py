@@ -1,0 +1,144 @@
+"""Who acted, and why: lines of JSON that the front writes for each act, tied to the rows of a book.
+
+The front's line has the time of the answer and how long it took (seconds of UTC), the hall's book,
+the person, the status, the row that the answer named, and the body of the act; never a password.
+Desk and request are no key, since a refused number comes again: a line is of the row that it was
+answered with status 200, where that row has its desk, its request and its act. A repeat is answered
+with the same row: the first line is the one who acted."""
+
+import json
+import os
+from collections.abc import Callable
+from typing import Any, NamedTuple
+
+from hall_archive.rows import Entry
+
+ACCEPTED = 200
+# The longest reason that is kept, in letters.
+REASON_LETTERS = 500
+# Bytes of a log that are read at once.
+PIECE = 1 << 20
+WORDS = {"product_ml": "product", "open_at": "open"}
+
+
+class Place(NamedTuple):
+    """How far a log was read: the file, by its inode, and the bytes of it."""
+
+    file: int
+    place: int
+
+
+class Line(NamedTuple):
+    """What the front says of an act that was accepted. Times in ms of UTC."""
+
+    row: int
+    person: str
+    desk: int
+    request: int
+    act: str
+    reason: str | None
+    low: int
+    high: int
+    text: str
+
+
+class Tied(NamedTuple):
+    """A line that is tied to its row; or, with `fault`, one that names a row that isn't its own."""
+
+    row: int
+    person: str
+    reason: str | None
+    low: int
+    high: int
+    line: str
+    fault: str
+
+
+def read_line(text: str, book: str) -> Line | None:
+    """An accepted act of this book; None for each other line."""
+    try:
+        said = json.loads(text)
+        body = json.loads(said["body"])
+        if said["book"] != book or int(said["status"]) != ACCEPTED:
+            return None
+        high = round(float(said["time"]) * 1000)
+        low = high - round(float(said["took"]) * 1000)
+        numbers = int(said["row"]), int(body["desk"]), int(body["request"])
+        reason = reason_of(body)
+        return Line(numbers[0], said["person"], *numbers[1:], body["act"], reason, low, high, text)
+    except (ValueError, KeyError, TypeError):
+        return None
+
+
+def reason_of(body: dict[str, Any]) -> str | None:
+    reason = body.get("reason")
+    return reason[:REASON_LETTERS] if isinstance(reason, str) and reason.strip() else None
+
+
+def tie(line: Line, entry: Entry | None) -> Tied:
+    """Ties a line to the act of its row, where that is the act of the line."""
+    kind = WORDS.get(line.act, line.act)
+    fault = ""
+    if entry is None:
+        fault = f"row {line.row} is no act of a desk"
+    elif (entry.desk, entry.request) != (line.desk, line.request):
+        fault = f"row {line.row} is of desk {entry.desk}, request {entry.request}"
+    elif type(entry.act).__name__.lower() != kind:
+        fault = f"row {line.row} is another act: {type(entry.act).__name__.lower()}"
+    return Tied(line.row, line.person, line.reason, line.low, line.high, line.text, fault)
+
+
+class Log:
+    """The front's log, read from a place on. Where the log was turned, its file of before (PATH.1)
+    is read to its end first."""
+
+    def __init__(self, path: str, place: Place) -> None:
+        self.path = path
+        self.place = place
+
+    def lines(self) -> tuple[list[str], Place]:
+        """The whole lines that came since, and the place behind them. A last line without its LF
+        is left for the next time."""
+        file = self.place.file
+        for path in (self.path, f"{self.path}.1"):
+            if inode_of(path) == file and file:
+                found = self.read(path, self.place)
+                if found[0] or path == self.path:
+                    return found
+        if inode := inode_of(self.path):
+            return self.read(self.path, Place(inode, 0))
+        return [], self.place
+
+    def read(self, path: str, place: Place) -> tuple[list[str], Place]:
+        with open(path, "rb") as file:
+            size = os.fstat(file.fileno()).st_size
+            # a file that became shorter was begun anew
+            begin = place.place if place.place <= size else 0
+            file.seek(begin)
+            piece = file.read(PIECE)
+        whole = piece[: piece.rfind(b"\n") + 1]
+        lines = whole.decode("utf-8", errors="replace").splitlines()
+        return lines, Place(place.file, begin + len(whole))
+
+
+def inode_of(path: str) -> int:
+    try:
+        return os.stat(path).st_ino
+    except OSError:
+        return 0
+
+
+def tie_lines(
+    lines: list[str], book: str, upto: int, act_at: Callable[[int], Entry | None]
+) -> tuple[list[Tied], list[str]]:
+    """The lines of a book that can be tied now, and those whose row isn't taken yet."""
+    tied, waiting = [], []
+    for text in lines:
+        line = read_line(text, book)
+        if line is None:
+            continue
+        if line.row > upto:
+            waiting.append(text)
+        else:
+            tied.append(tie(line, act_at(line.row)))
+    return tied, waiting

@@ -1,0 +1,189 @@
+"""The service of one book: follows it, ties the front's lines to its rows, and keeps its witness.
+
+The follower has a thread of its own, so that nothing else widens the hours."""
+
+import logging
+import threading
+import time
+from collections.abc import Callable
+from datetime import UTC, datetime
+
+from hall_archive import checks, following, people
+from hall_archive.following import Behind, Follower, OtherBook, Unanswered, Unkept
+from hall_archive.questions import Books
+from hall_archive.reading import NotRead, Reader
+from hall_archive.rows import bytes_of
+from hall_archive.store import Store
+from hall_archive.witness import Running, Witness, fingerprint
+
+log = logging.getLogger("hall-archive")
+# Seconds between two looks for new lines of the front, and for new rows to be witnessed.
+PEOPLE_EVERY = 1.0
+WITNESS_EVERY = 60.0
+# The hour of UTC at which the book's fingerprint is taken each night.
+NIGHT = 2
+# Lines of the front that wait for their row at most.
+WAITING_LINES = 10_000
+
+
+class Said:
+    """Says what goes on as long as it is the same once, and that it is over."""
+
+    def __init__(self) -> None:
+        self.why = ""
+
+    def fault(self, why: str) -> None:
+        if why != self.why:
+            log.warning("%s", why)
+        self.why = why
+
+    def good(self, said: str) -> None:
+        if self.why:
+            log.info("%s", said)
+        self.why = ""
+
+
+class Following:
+    """Follows a book until `stop`, and puts down which batches were closed."""
+
+    def __init__(self, name: str, begin: Callable[[], Follower]) -> None:
+        self.name = name
+        self.begin = begin
+        self.stop = threading.Event()
+        self.closed: list[str] = []
+        self.other = ""
+        self.said = Said()
+
+    def run(self) -> None:
+        follower = None
+        while not self.stop.is_set():
+            try:
+                follower = follower or self.begin()
+                self.follow(follower)
+            except Unanswered as fault:
+                self.pause(f"{fault}: it is asked again")
+            except (Unkept, Behind) as fault:
+                self.pause(f"{fault}: the archive's database is asked again")
+                follower = None
+            except OtherBook as fault:
+                self.other = str(fault)
+                log.error("%s: nothing of it is taken", fault)
+                return
+
+    def follow(self, follower: Follower) -> None:
+        while not self.stop.is_set():
+            sent = time.monotonic()
+            came, kept = follower.step()
+            if kept:
+                self.closed += kept.closed
+            self.said.good(f"{self.name}: followed again, row {follower.upto}")
+            following.wait(came, sent)
+
+    def pause(self, why: str) -> None:
+        self.said.fault(why)
+        self.stop.wait(following.PAUSE)
+
+
+class People:
+    """Ties what the front wrote to the rows of a book."""
+
+    def __init__(self, store: Store, path: str) -> None:
+        self.store = store
+        self.log = people.Log(path, store.place(path))
+        self.waiting: list[str] = []
+        self.begin = self.log.place
+
+    def look(self) -> None:
+        """Reads what came. The place that is kept is behind the last line that was tied, so that
+        those which wait for their row are read again after a kill."""
+        lines, place = self.log.lines()
+        if not lines and not self.waiting:
+            return
+        upto = self.store.cursor().upto
+        tied, waiting = people.tie_lines(
+            [*self.waiting, *lines], self.store.name, upto, self.store.act_at
+        )
+        for one in tied:
+            if one.fault:
+                log.warning("the front has a line that isn't of its row: %s", one.fault)
+        self.waiting = waiting[-WAITING_LINES:]
+        self.log.place = place
+        self.store.keep_people(self.log.path, self.begin if self.waiting else place, tied)
+        if not self.waiting:
+            self.begin = place
+
+
+class Witnessing:
+    """Keeps the witness of a book: at the start, at each closing, each minute with new rows, and
+    nightly with the fingerprint of `hall audit`."""
+
+    def __init__(self, store: Store, witness: Witness, reader: Reader) -> None:
+        self.store = store
+        self.witness = witness
+        self.reader = reader
+        self.running = Running()
+        self.night = ""
+
+    def look(self, has_closed: bool, moment: int) -> None:
+        """Appends a line where one is due; an alarm where the book has other rows than the
+        archive."""
+        upto = self.store.cursor().upto
+        night = datetime.fromtimestamp(moment // 1000, UTC)
+        is_night = night.hour == NIGHT and self.night != f"{night:%F}"
+        is_first = self.running.rows == 0 and upto > 0
+        if upto > self.running.rows:
+            self.running.add(map(bytes_of, self.store.entries(self.running.rows)))
+        elif not is_night:
+            return
+        if is_night:
+            self.night = f"{night:%F}"
+        audit = self.audit(moment) if has_closed or is_first or is_night else ""
+        said = self.witness.append(moment, self.running.rows, self.running.hex(), audit)
+        log.info("witness of %s: %s", self.store.name, said)
+
+    def audit(self, moment: int) -> str:
+        """The fingerprint of as many rows, where the book's file has them already."""
+        rows = self.running.rows
+        try:
+            said = b"".join(self.reader.ask(self.store.name, "audit", str(rows))).decode("ascii")
+        except NotRead as fault:
+            log.warning("%s", fault)
+            return ""
+        words = dict(line.split(" ", 1) for line in said.splitlines() if " " in line)
+        whole = words.get("rows", "0").split(" ")[0]
+        if int(whole) < rows:
+            return ""
+        if words.get("sha256") != self.fingerprint():
+            why = f"the book's first {rows} rows aren't those that were followed"
+            self.store.alarm(moment, why)
+            log.error("%s: %s", self.store.name, why)
+        return words.get("sha256", "")
+
+    def fingerprint(self) -> str:
+        """What `audit` has to say of as many rows, by the rows of the archive."""
+        rows = self.running.rows
+        return fingerprint(rows, map(bytes_of, self.store.entries(upto=rows)))
+
+
+class Checking:
+    """Holds each closed batch against the book."""
+
+    def __init__(self, store: Store, books: Books, reader: Reader) -> None:
+        self.store = store
+        self.books = books
+        self.reader = reader
+        self.due: list[str] = []
+
+    def look(self, moment: int) -> None:
+        for name in list(self.due):
+            try:
+                batch = self.books.batch(self.store.book, name)
+                if batch is None or not checks.compare_batch(self.reader, self.store.name, batch):
+                    continue
+            except checks.Differs as fault:
+                self.store.alarm(moment, str(fault))
+                log.error("%s: %s", self.store.name, fault)
+            except NotRead as fault:
+                log.warning("%s", fault)
+                continue
+            self.due.remove(name)

@@ -1,0 +1,328 @@
+"""The archive's database: opened, migrated, and what a follower reads and keeps there. This module
+and `questions` alone import sqlalchemy."""
+
+import io
+import os
+from collections.abc import Iterator, Sequence
+from contextlib import contextmanager
+from typing import Any
+
+from alembic import command
+from alembic.config import Config
+from sqlalchemy import create_engine, event, func, select, text
+from sqlalchemy.exc import DBAPIError
+
+from hall_archive import nets, schema
+from hall_archive.clock import Answer, Clock
+from hall_archive.following import Behind, Cursor, Taken, Unkept
+from hall_archive.people import Place, Tied
+from hall_archive.rows import MAX_ROWS, PRIORS, SIGNALS, Entry, Weigh, line_of, read_line
+
+MIGRATIONS = os.path.join(os.path.dirname(os.path.abspath(__file__)), "migrations")
+# Seconds that a writer of SQLite waits for another.
+BUSY = 30
+KINDS = ("live", "late", "step")
+# Rows that are read from the database at once.
+CHUNK = 8_192
+WEIGHINGS = """
+    SELECT row, by, lane, gross, prior, signal FROM pack
+    WHERE book = %d AND row > %d AND row <= %d ORDER BY row"""
+# by the range of each open batch, so that the closed ones cost nothing
+OPEN_WEIGHINGS = """
+    SELECT p.row, p.by, p.lane, p.gross, p.prior, p.signal FROM batch b
+    JOIN pack p ON p.book = b.book AND p.row BETWEEN b.first AND b.last AND p.batch = b.row
+    WHERE b.book = %d AND p.row > %d AND p.row <= %d AND b.state <> 'closed' AND b.first > 0
+    ORDER BY p.row"""
+
+
+def open_engine(url: str, writes: bool = False) -> Any:
+    """The database of a URL (`sqlite:////var/lib/hall-archive/archive.db`, `postgresql:///hall`).
+    What writes takes its lock at once, so that two writers never meet half way."""
+    engine = create_engine(url, future=True, pool_pre_ping=True)
+    if engine.dialect.name == "sqlite":
+        begin = "BEGIN IMMEDIATE" if writes else "BEGIN"
+
+        @event.listens_for(engine, "connect")  # type: ignore[misc]
+        def connected(link: Any, _: Any) -> None:
+            link.isolation_level = None
+            for pragma in ("journal_mode = WAL", "synchronous = FULL", f"busy_timeout = {BUSY}000"):
+                link.execute(f"PRAGMA {pragma}")
+
+        @event.listens_for(engine, "begin")  # type: ignore[misc]
+        def began(link: Any) -> None:
+            link.exec_driver_sql(begin)
+
+    return engine
+
+
+def migrate(engine: Any) -> None:
+    """Brings the tables to their newest form."""
+    config = Config()
+    config.set_main_option("script_location", MIGRATIONS)
+    with engine.begin() as link:
+        config.attributes["connection"] = link
+        command.upgrade(config, "head")
+
+
+@contextmanager
+def reaching(begun: Any) -> Iterator[Any]:
+    """A connection or a transaction; Unkept where the database fails."""
+    try:
+        with begun as link:
+            yield link
+    except DBAPIError as fault:
+        raise Unkept(str(fault.orig).strip()) from fault
+
+
+class Store:
+    """What the archive has of one book."""
+
+    def __init__(self, engine: Any, hall: str, name: str) -> None:
+        self.engine = engine
+        self.hall = hall
+        self.name = name
+        self.is_postgres = engine.dialect.name == "postgresql"
+        self.clocks: dict[Clock, int] = {}
+        self.book = self.number()
+
+    def number(self) -> int:
+        """The number of the book here; it is put in where it is new."""
+        with reaching(self.engine.begin()) as link:
+            found = link.execute(
+                select(schema.book.c.id).where(
+                    schema.book.c.hall == self.hall, schema.book.c.name == self.name
+                )
+            ).scalar()
+            if found is None:
+                values = {"hall": self.hall, "name": self.name, "upto": 0}
+                found = link.execute(schema.book.insert().values(values)).inserted_primary_key[0]
+        return int(found)
+
+    # ---- what a follower begins with
+
+    def cursor(self) -> Cursor:
+        table = schema.book.c
+        with reaching(self.engine.connect()) as link:
+            upto, asked, clock, refused = link.execute(
+                select(table.upto, table.asked, table.clock, table.refused).where(
+                    table.id == self.book
+                )
+            ).one()
+            found = None
+            if clock is not None:
+                boot, offset = link.execute(
+                    select(schema.clock.c.boot, schema.clock.c.offset).where(
+                        schema.clock.c.id == clock
+                    )
+                ).one()
+                found = Clock(boot, offset)
+        return Cursor(int(upto), asked, found, refused)
+
+    def refuse(self, why: str) -> None:
+        """Takes down that the book at hand is another one."""
+        with reaching(self.engine.begin()) as link:
+            link.execute(
+                schema.book.update().where(schema.book.c.id == self.book).values(refused=why)
+            )
+
+    def closed(self) -> set[str]:
+        """The names of the batches that are closed."""
+        table = schema.batch.c
+        with reaching(self.engine.connect()) as link:
+            rows = link.execute(
+                select(table.name).where(table.book == self.book, table.state == "closed")
+            )
+            return {name for (name,) in rows}
+
+    def resume(self) -> nets.Book:
+        """The book as it was left, without the packs of closed batches."""
+        return nets.resume(self.entries_but_of_closed(), self.closed())
+
+    def entries_but_of_closed(self) -> Iterator[Entry]:
+        """All rows, in order, without the weighings of closed batches."""
+        return merged(self.acts(), self.weighings(OPEN_WEIGHINGS))
+
+    def entries(self, after: int = 0, upto: int = MAX_ROWS) -> Iterator[Entry]:
+        """Rows behind `after` up to `upto`, in order."""
+        return merged(self.acts(after, upto), self.weighings(after=after, upto=upto))
+
+    def lines(self, after: int, upto: int) -> list[str]:
+        """The lines of some rows, as the book has them."""
+        return [line_of(entry) for entry in self.entries(after, upto)]
+
+    def acts(self, after: int = 0, upto: int = MAX_ROWS) -> Iterator[Entry]:
+        """All rows but weighings, in order."""
+        table = schema.act.c
+        of = (table.book == self.book, table.row > after, table.row <= upto)
+        wanted = select(table.line).where(*of)
+        with reaching(self.engine.connect()) as link:
+            lines = [line for (line,) in link.execute(wanted.order_by(table.row))]
+        return map(read_line, lines)
+
+    def weighings(
+        self,
+        statement: str = WEIGHINGS,
+        after: int = 0,
+        upto: int = MAX_ROWS,
+    ) -> Iterator[Entry]:
+        """Weighings, in order, a chunk at a time."""
+        with reaching(self.engine.connect()) as link:
+            found = link.execution_options(stream_results=True, yield_per=CHUNK)
+            for row, by, lane, gross, prior, signal in found.exec_driver_sql(
+                statement % (self.book, after, upto)
+            ):
+                weighed = Weigh(lane, gross, PRIORS[prior])
+                yield Entry(row, SIGNALS[signal], by, 0, 0, weighed)
+
+    # ---- what a follower keeps
+
+    def keep(self, taken: Taken) -> None:
+        """Keeps what was taken, all of it or nothing; Behind where the archive is at another
+        row than this begins."""
+        with reaching(self.engine.begin()) as link:
+            clock = self.clock_number(link, taken.clock)
+            at = link.execute(
+                schema.book.update()
+                .where(schema.book.c.id == self.book, schema.book.c.upto == taken.after)
+                .values(upto=taken.upto, asked=taken.asked, clock=clock)
+            )
+            if at.rowcount != 1:
+                raise Behind(f"{self.name}: the archive isn't at row {taken.after}")
+            self.insert(link, "pack", [(*pack, self.book, *more) for pack, more in taken.packs])
+            moves = [(m.pack, m.row, self.book, nets.PILES.index(m.pile)) for m in taken.moves]
+            self.insert(link, "move", moves)
+            acts = [(row, self.book, batch, *more) for row, batch, *more in taken.acts]
+            self.insert(link, "act", acts)
+            self.insert(link, "answer", [self.answer_row(link, one) for one in taken.answers])
+            for batch in taken.batches:
+                self.put_batch(link, batch._asdict())
+
+    def clock_number(self, link: Any, clock: Clock | None) -> int | None:
+        """The number of a clock here; it is put in where it is new."""
+        if clock is None:
+            return None
+        if clock not in self.clocks:
+            table = schema.clock
+            same = (table.c.boot == clock.boot, table.c.offset == clock.offset)
+            found = link.execute(select(table.c.id).where(*same)).scalar()
+            if found is None:
+                added = link.execute(table.insert().values(boot=clock.boot, offset=clock.offset))
+                return int(added.inserted_primary_key[0])
+            self.clocks[clock] = int(found)
+        return self.clocks[clock]
+
+    def answer_row(self, link: Any, one: Answer) -> tuple[Any, ...]:
+        clock = self.clock_number(link, one.clock)
+        return one.low, one.high, one.upto, clock, self.book, KINDS.index(one.kind)
+
+    def put_batch(self, link: Any, values: dict[str, Any]) -> None:
+        table = schema.batch
+        same = (table.c.book == self.book, table.c.row == values["row"])
+        if link.execute(table.update().where(*same).values(values)).rowcount == 0:
+            link.execute(table.insert().values(book=self.book, **values))
+
+    def insert(self, link: Any, table: str, rows: Sequence[tuple[Any, ...]]) -> None:
+        """Inserts rows whose values stand in the order of the table's columns."""
+        if not rows:
+            return
+        if self.is_postgres:
+            with link.connection.cursor() as cursor:
+                cursor.copy_expert(f"COPY {table} FROM STDIN", io.StringIO(copied(rows)))
+        else:
+            marks = ", ".join("?" * len(rows[0]))
+            link.exec_driver_sql(f"INSERT INTO {table} VALUES ({marks})", rows)
+
+    # ---- persons
+
+    def place(self, path: str) -> Place:
+        table = schema.front_log.c
+        with reaching(self.engine.connect()) as link:
+            found = link.execute(
+                select(table.file, table.place).where(table.path == self.log(path))
+            ).one_or_none()
+        return Place(*found) if found else Place(0, 0)
+
+    def log(self, path: str) -> str:
+        """How a log is named here; each book reads it for itself."""
+        return f"{self.hall} {self.name} {path}"
+
+    def keep_people(self, path: str, place: Place, tied: list[Tied]) -> None:
+        """Keeps who acted, the first of each row, and how far the log was read."""
+        with reaching(self.engine.begin()) as link:
+            for one in tied:
+                self.keep_person(link, one)
+            table = schema.front_log
+            values = {"file": place.file, "place": place.place}
+            same = table.c.path == self.log(path)
+            if link.execute(table.update().where(same).values(values)).rowcount == 0:
+                link.execute(table.insert().values(path=self.log(path), **values))
+
+    def keep_person(self, link: Any, one: Tied) -> None:
+        if one.fault:
+            values = {"book": self.book, "line": one.line, "why": one.fault}
+            link.execute(schema.refused_line.insert().values(values))
+            return
+        table = schema.person
+        same = (table.c.book == self.book, table.c.row == one.row)
+        if link.execute(select(table.c.row).where(*same)).first() is None:
+            link.execute(
+                table.insert().values(
+                    book=self.book,
+                    row=one.row,
+                    name=one.person,
+                    reason=one.reason,
+                    low=one.low,
+                    high=one.high,
+                )
+            )
+
+    def act_at(self, row: int) -> Entry | None:
+        """The act of a row; None where the row is a weighing or isn't here."""
+        table = schema.act.c
+        with reaching(self.engine.connect()) as link:
+            found = link.execute(
+                select(table.line).where(table.book == self.book, table.row == row)
+            ).scalar()
+        return read_line(found) if found else None
+
+    # ---- alarms
+
+    def alarm(self, moment: int, what: str) -> None:
+        """Keeps an alarm, once for each text."""
+        table = schema.alarm
+        with reaching(self.engine.begin()) as link:
+            same = (table.c.book == self.book, table.c.what == what)
+            if not link.execute(select(func.count()).select_from(table).where(*same)).scalar():
+                link.execute(table.insert().values(book=self.book, moment=moment, what=what))
+
+    def analyze(self) -> None:
+        """Counts the tables' rows anew for the planner: a fresh table has no statistics."""
+        with reaching(self.engine.begin()) as link:
+            link.execute(text("ANALYZE"))
+
+
+def merged(acts: Iterator[Entry], weighings: Iterator[Entry]) -> Iterator[Entry]:
+    """Two lists of entries as one, in order of the rows."""
+    act = next(acts, None)
+    for weighing in weighings:
+        while act and act.row < weighing.row:
+            yield act
+            act = next(acts, None)
+        yield weighing
+    if act:
+        yield act
+        yield from acts
+
+
+def copied(rows: Sequence[tuple[Any, ...]]) -> str:
+    """Rows as COPY of PostgreSQL reads them. No text of a book has a tab, a line break or a
+    backslash but the line of an act, whose tabs are escaped."""
+    return "".join("\t".join(map(field, row)) + "\n" for row in rows)
+
+
+def field(value: Any) -> str:
+    if value is None:
+        return "\\N"
+    if isinstance(value, int):
+        return str(value)
+    return str(value).replace("\\", "\\\\").replace("\t", "\\t").replace("\n", "\\n")

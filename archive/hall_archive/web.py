@@ -1,0 +1,189 @@
+"""What the pages ask of the archive, by HTTP on 127.0.0.1 behind the front. The front names the
+person (`X-Person`) and the book whose hall it shows (`X-Book`), and lets nobody else in: this
+trusts both. A question sees the books and the evidence of that hall alone."""
+
+import json
+import time
+from typing import Any
+
+from fastapi import Body, FastAPI, Header, HTTPException, Path, Query
+from fastapi.responses import JSONResponse, PlainTextResponse, StreamingResponse
+
+from hall_archive import evidence, nets, store
+from hall_archive.evidence import BadEvidence, Record
+from hall_archive.following import Unkept
+from hall_archive.reading import NAME
+from hall_archive.records import Records
+from hall_archive.rows import MAX_ROWS
+from hall_archive.search import BadQuestion, Search
+from hall_archive.settings import Settings
+
+# Texts of a question: names of books, batches, products, persons.
+Word = Query(default="", max_length=64)
+Time = Query(default=None, ge=0, le=1 << 52, description="ms of UTC since 1970-01-01")
+After = Query(default=0, ge=0, le=MAX_ROWS)
+Row = Path(ge=1, le=MAX_ROWS)
+Front = Header(max_length=64)
+
+
+class Halls:
+    """Which hall the front shows, by the book that it names."""
+
+    def __init__(self, settings: Settings) -> None:
+        self.settings = settings
+
+    def of(self, book: str) -> str:
+        halls = {one.hall for one in self.settings.followed if one.name == book}
+        if len(halls) != 1:
+            raise HTTPException(404, f"the archive has {len(halls)} halls with a book {book!r}")
+        return halls.pop()
+
+
+def shown(record: Record) -> dict[str, Any]:
+    return record._asdict() | {"body": json.loads(record.body)}
+
+
+def make_app(settings: Settings) -> Any:
+    """The application, over the database of the settings."""
+    reads = store.open_engine(settings.database)
+    search, halls = Search(reads), Halls(settings)
+    records = Records(store.open_engine(settings.database, writes=True))
+    app = FastAPI(title="hall-archive", docs_url=None, redoc_url=None)
+    add_faults(app)
+    add_questions(app, search, halls)
+    add_texts(app, search, halls)
+    add_evidence(app, records, halls, settings.days)
+    return app
+
+
+def add_faults(app: Any) -> None:
+    @app.exception_handler(BadQuestion)  # type: ignore[misc]
+    def bad_question(_: Any, fault: BadQuestion) -> Any:
+        return JSONResponse({"detail": str(fault)}, 404)
+
+    @app.exception_handler(BadEvidence)  # type: ignore[misc]
+    def bad_evidence(_: Any, fault: BadEvidence) -> Any:
+        return JSONResponse({"detail": str(fault)}, 422)
+
+    @app.exception_handler(Unkept)  # type: ignore[misc]
+    def unanswered(_: Any, fault: Unkept) -> Any:
+        return JSONResponse({"detail": "the archive's database doesn't answer"}, 503)
+
+
+def add_questions(app: Any, search: Search, halls: Halls) -> None:
+    @app.get("/books")  # type: ignore[misc]
+    def books(x_book: str = Front) -> Any:
+        """The books of the hall: how many rows of each were taken, and until when it was asked."""
+        return search.books(halls.of(x_book))
+
+    @app.get("/batches")  # type: ignore[misc]
+    def batches(
+        x_book: str = Front,
+        book: str = Word,
+        name: str = Word,
+        product: str = Word,
+        state: str = Word,
+        low: int | None = Time,
+        high: int | None = Time,
+        after: int = After,
+    ) -> Any:
+        """Batches, over all books of the hall."""
+        given = {"book": book, "name": name, "product": product, "state": state}
+        return search.batches(halls.of(x_book), **given, low=low, high=high, after=after)
+
+    @app.get("/packs/{book}")  # type: ignore[misc]
+    def packs(
+        book: str,
+        x_book: str = Front,
+        batch: str = Word,
+        product: str = Word,
+        lane: int = Query(default=0, ge=0, le=16),
+        signal: str = Word,
+        pile: str = Word,
+        low: int | None = Time,
+        high: int | None = Time,
+        after: int = After,
+    ) -> Any:
+        """Packs of a book, behind row `after`; `signal` may be `reject` for every reject."""
+        given: dict[str, Any] = {"batch": batch, "product": product, "signal": signal, "pile": pile}
+        given |= {"lane": lane, "low": low, "high": high, "after": after}
+        return search.packs(halls.of(x_book), book, **given)
+
+    @app.get("/packs/{book}/{row}")  # type: ignore[misc]
+    def story(book: str, row: int = Row, x_book: str = Front) -> Any:
+        """A pack with its hour, its place on its lane, and the acts that speak of it."""
+        return search.story(halls.of(x_book), book, row)
+
+    @app.get("/acts")  # type: ignore[misc]
+    def acts(
+        x_book: str = Front,
+        book: str = Word,
+        batch: str = Word,
+        product: str = Word,
+        kind: str = Word,
+        person: str = Word,
+        low: int | None = Time,
+        high: int | None = Time,
+        after: int = After,
+    ) -> Any:
+        """Acts with persons, reasons and hours, over all books of the hall."""
+        given = {"book": book, "batch": batch, "product": product, "kind": kind, "person": person}
+        return search.acts(halls.of(x_book), **given, low=low, high=high, after=after)
+
+    @app.get("/totals/{book}")  # type: ignore[misc]
+    def totals(
+        book: str, x_book: str = Front, low: int | None = Time, high: int | None = Time
+    ) -> Any:
+        """What was weighed in a span, by batch, lane and signal."""
+        return search.totals(halls.of(x_book), book, low, high)
+
+
+def add_texts(app: Any, search: Search, halls: Halls) -> None:
+    @app.get("/sheets/{book}/{batch}")  # type: ignore[misc]
+    def sheet(book: str, batch: str, x_book: str = Front) -> Any:
+        """The sheet of a batch, as `hall report --batch` prints it."""
+        found = search.batch(search.one_book(halls.of(x_book), book), batch)
+        if found is None:
+            raise BadQuestion(f"there is no batch {batch!r}")
+        return PlainTextResponse(nets.sheet(found))
+
+    @app.get("/registers/{book}")  # type: ignore[misc]
+    def register(book: str, x_book: str = Front) -> Any:
+        """The register of a book, as `hall export` prints it."""
+        number = search.one_book(halls.of(x_book), book)
+        return StreamingResponse(search.register(number), media_type="text/csv")
+
+
+def add_evidence(app: Any, records: Records, halls: Halls, days: dict[str, int]) -> None:
+    @app.get("/evidence")  # type: ignore[misc]
+    def found(x_book: str = Front, kind: str = Word, subject: str = Word) -> Any:
+        """Evidence of the hall, the oldest first."""
+        return [shown(one) for one in records.all(halls.of(x_book), kind, subject)]
+
+    @app.get("/newest")  # type: ignore[misc]
+    def newest(x_book: str = Front) -> Any:
+        """The newest of each kind and subject."""
+        return [shown(one) for one in records.newest(halls.of(x_book))]
+
+    @app.get("/alarms")  # type: ignore[misc]
+    def alarms(x_book: str = Front) -> Any:
+        """What of the evidence is overdue or not good, and what of the books differs."""
+        hall = halls.of(x_book)
+        now = time.time_ns() // 1_000_000
+        said = evidence.alarms(records.newest(hall), now, days)
+        return {"evidence": said, "books": Search(records.engine).alarms(hall)}
+
+    @app.post("/evidence/{kind}/{subject}", status_code=201)  # type: ignore[misc]
+    def add(
+        kind: str,
+        subject: str,
+        entered: dict[str, Any] = Body(),
+        x_book: str = Front,
+        x_person: str = Header(min_length=1, max_length=64),
+    ) -> Any:
+        """Adds a record; it is chained to the one before, and is never changed."""
+        if not NAME.fullmatch(subject):
+            raise BadEvidence(f"{subject[:64]!r} is no name of what it is of")
+        body = evidence.evaluate(kind, entered)
+        moment = time.time_ns() // 1_000_000
+        return shown(records.add(halls.of(x_book), kind, subject, moment, x_person, body))
