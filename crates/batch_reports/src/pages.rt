@@ -42,6 +42,7 @@ fn push_line(to: &mut Vec<u8>, view: &ActView)
 }
 
 /// Appends a page as a shipment: its head, and its rows.
+#[tactic(auto, unfolding(crate::specs::Texts::shipment_text))]
 pub fn push_shipment(to: &mut Vec<u8>, view: &RowsView)
     requires room { HasRoom to.old (SHIP_HEAD + ROW_BYTES * length view.now.acts) }
     requires range { IsPageInRange view.now }

@@ -5,6 +5,7 @@ use Rattle.book_words.specs.declared.act.Want.{Want}
 use Rattle.book_words.specs.declared.act.Want.TheVariants as want
 use Rattle.book_words.specs.declared.act.Question.TheVariants.{Rows, Shipment}
 use Rattle.book_words.specs.declared.act.Entry.{Entry}
+use Rattle.book_words.specs.declared.views.ActView.{ActView}
 use Rattle.book_words.specs.declared.views.RowsView.{RowsView}
 use Rattle.book_words.specs.Pages.{page_after}
 use Rattle.book_words.specs.Answers.{answer, IsLegal}
@@ -36,7 +37,7 @@ AreAnsweredAlike =
 -- a page, as if a script had brought its rows
 abbrev pub unnamed_page : RowsView → RowsView
 unnamed_page view =
-    record view { acts = map (λ act. record act { entry = unnamed act.entry }) view.acts }
+    record view { acts = map (λ (act : ActView). record act { entry = unnamed act.entry }) view.acts }
 
 -- A law: their pages are the same but for who brought the rows.
 abbrev pub ArePagesAlike : Type 0

@@ -1,4 +1,4 @@
-use Rattle.std.proofs.Common.{rules, ◌≡◌, [], ◌∷◌, ◌++◌, List, ℕ, length, sym, ap, ◌∙◌, subst, arith, append_assoc, append-nil}
+use Rattle.std.proofs.Common.{rules, ◌≡◌, [], ◌∷◌, ◌++◌, List, ℕ, length, refl, sym, ap, ◌∙◌, subst, arith, append_assoc, append-nil}
 use Rattle.std.specs.List.{AllByRecursion}
 use Rattle.book_words.specs.declared.views.ActView.{ActView}
 use Rattle.book_words.specs.Ranges.{IsLawfulSomewhere}
@@ -33,13 +33,17 @@ loop-view-preserved c =
       capacity = c.push_row.ensures.capacity ∙ here.invariant.capacity;
     }
 
+nothing : (views : List ActView) → length views ≡ 0 → views ≡ []
+nothing [] h = refl
+nothing (view ∷ views) h = absurd (omega (arith, h))
+
 pub returns : goal.returns
 returns c =
     let here = c.loop-view in
-    let none : here.rest.now ≡ [] = search rules in
+    let none : length here.rest.now ≡ 0 = search rules in
     record {
       items = sym (append-nil here.to.items)
-          ∙ ap (λ (vs : List ActView). here.to.items ++ rows_of vs) (sym none)
+          ∙ ap (λ (vs : List ActView). here.to.items ++ rows_of vs) (sym (nothing here.rest.now none))
           ∙ here.invariant.items;
       longest = omega (arith, here.invariant.long);
       capacity = here.invariant.capacity;

@@ -1,7 +1,7 @@
 use Rattle.std.proofs.Common.{◌≡◌, ◌+◌, ◌*◌, ◌≤◌, ◌++◌, length, vec_len, vec_capacity}
 use Rattle.std.specs.List.{AllByRecursion}
 use Rattle.book_words.specs.Ranges.{IsLawfulSomewhere}
-use Rattle.book_snapshot.specs.declared.layout.TheConstants.{ROW_BYTES}
+use Rattle.row_format.specs.Spelling.{new_layout}
 use Rattle.batch_reports.specs.Texts.{rows_of}
 use Rattle.batch_reports.proofs.pages.push_rows.Given as goal
 
@@ -10,7 +10,7 @@ abbrev pub invariant-loop-view : goal.invariant-loop-view
 invariant-loop-view l = record {
   items : l.to.items ++ rows_of l.rest ≡ l.fn.to.items ++ rows_of l.acts;
   lawful : AllByRecursion IsLawfulSomewhere l.rest;
-  long : vec_len l.to + ROW_BYTES * length l.rest ≤ vec_len l.fn.to + ROW_BYTES * length l.acts;
+  long : vec_len l.to + new_layout.row * length l.rest ≤ vec_len l.fn.to + new_layout.row * length l.acts;
   capacity : vec_capacity l.to ≡ vec_capacity l.fn.to;
 }
 
