@@ -24,8 +24,15 @@ def rate(program: str, lanes: int) -> float:
     batches = [f"L{lane}" for lane in range(1, lanes + 1)]
     opening = OPENING + "".join(f"open {batch} P\n" for batch in batches)
     began = time.monotonic()
-    hall = Hall(program, folder, plan(opening, batches), lanes=lanes, doors=0,
-                book=f"{folder}/book", port=free_ports())
+    hall = Hall(
+        program,
+        folder,
+        plan(opening, batches),
+        lanes=lanes,
+        doors=0,
+        book=f"{folder}/book",
+        port=free_ports(),
+    )
     status = hall.process.wait()
     seconds = time.monotonic() - began
     need(status == 0, f"serve ends with {status}: {hall.said()}")

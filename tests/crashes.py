@@ -34,11 +34,13 @@ class Call(NamedTuple):
 
 
 class Image(NamedTuple):
-    """What a crash leaves, and how many rows were answered by then."""
+    """What a crash leaves, how many rows were answered by then, and whether other bytes stand in the
+    room than zeros, as where a file system gives a file what its blocks held before."""
 
     number: int
     content: bytes
     answered: int
+    is_foreign: bool
 
 
 class Recorded(NamedTuple):
@@ -127,19 +129,22 @@ def torn(draw: random.Random, call: Call, there: bytes) -> bytes:
     return bytes(new if draw.random() < 0.5 else old for new, old in zip(call.content, there))
 
 
-def tear(draw: random.Random, call: Call, content: bytearray) -> None:
-    """Makes a part of a call that isn't stable yet."""
+def tear(draw: random.Random, call: Call, content: bytearray) -> bool:
+    """Makes a part of a call that isn't stable yet; says whether room has other bytes then."""
     end = call.place + len(call.content)
     way = draw.randrange(4)
     if way == 0:
-        return
+        return False
     if way == 1 or call.kind == "t":
         apply(call, content)
-        return
+        return False
     resize(content, max(len(content), draw.randint(call.place, end)))
-    if way == 2:
-        there = bytes(content[call.place : end]).ljust(len(call.content), b"\0")
-        apply(call._replace(content=torn(draw, call, there)), content)
+    if way == 3:
+        return False
+    there = bytes(content[call.place : end]).ljust(len(call.content), b"\0")
+    left = torn(draw, call, there)
+    apply(call._replace(content=left), content)
+    return any(left) and not any(call.content)
 
 
 def images(draw: random.Random, recorded: Recorded, count: int) -> Iterator[Image]:
@@ -149,9 +154,9 @@ def images(draw: random.Random, recorded: Recorded, count: int) -> Iterator[Imag
     for moment, call in enumerate([*recorded.calls, Call("s", 0, b"")]):
         for _ in range(moments[moment]):
             image = bytearray(stable)
-            for unstable in draw.sample(pending, len(pending)):
-                tear(draw, unstable, image)
-            yield Image(number, bytes(image), answered)
+            order = draw.sample(pending, len(pending))
+            is_foreign = any([tear(draw, unstable, image) for unstable in order])
+            yield Image(number, bytes(image), answered, is_foreign)
             number += 1
         if call.kind == "a":
             answered += call.place
@@ -180,7 +185,7 @@ def try_image(program: str, folder: str, recorded: Recorded, image: Image) -> in
     slots = slice(SLOT, SLOT * (rows + 1))
     need(image.content[slots] == recorded.book[slots], f"{path}: of {rows} rows some differ")
     if image.number % GOING_ON == 0:
-        go_on(program, path, rows)
+        go_on(program, path, rows, "none" if image.is_foreign else "same")
     os.remove(path)
     return rows - image.answered
 
@@ -194,12 +199,14 @@ def try_images(tried: Callable[[Image], int], drawn: Iterator[Image]) -> int:
     return more
 
 
-def go_on(program: str, path: str, rows: int) -> None:
-    """A run adds a row to an image and keeps a snapshot that fits."""
+def go_on(program: str, path: str, rows: int, least: str) -> None:
+    """A run adds a row to an image and keeps a snapshot that fits, or this at the least: one that
+    would end before other bytes isn't kept."""
     said = ask(program, path, "run", "day 2025-03-04\n")
     need(f"{rows + 1} ok\n" in said, f"{path}: of {rows} rows a run says {said!r}")
     said = ask(program, path, "audit")
-    need(said.startswith(f"rows {rows + 1} whole\nsnapshot same\n"), f"{path}: audit says {said!r}")
+    whole = [f"rows {rows + 1} whole\nsnapshot {word}\n" for word in ("same", least)]
+    need(said.startswith(tuple(whole)), f"{path}: audit says {said!r}")
 
 
 def main() -> None:
@@ -217,4 +224,5 @@ def main() -> None:
         )
 
 
-main()
+if __name__ == "__main__":
+    main()

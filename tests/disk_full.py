@@ -20,6 +20,8 @@ desk = Desk(FIRST_DESK, FIRST_DOOR)
 book = Book(program, f"{disk}/book", [desk])
 
 DAY = {"act": "day", "day": "2025-03-03"}
+# What a book's file grows by, and what the file system gives at once.
+PIECE, BLOCK = 65_536, 4096
 # ext4's call to shut a file system down, and its word for: without writing what is still held.
 SHUTDOWN = 0x8004587D
 NOTHING_WRITTEN = 2
@@ -43,9 +45,9 @@ def weighings(count):
     return [f"weigh 1 {spell_grams(drawn_gross(draw))}" for _ in range(count)]
 
 
-def run(*words, lines=()):
+def run(*words, lines=(), path=book.path):
     """The status of a command over the book, its lines, and what it says on standard error."""
-    ran = subprocess.run([program, *words, f"--book={book.path}"], input="".join(lines), text=True,
+    ran = subprocess.run([program, *words, f"--book={path}"], input="".join(lines), text=True,
                          capture_output=True)
     return ran.returncode, ran.stdout.splitlines(), ran.stderr
 
@@ -77,6 +79,35 @@ def full_in_a_run():
     give_back()
     goes_on(lines[stood:])
     print(f"full in a run: {heard} rows were answered and {stood} stood; with room {book.rows}")
+
+
+def full_at_pieces():
+    """Rows go on without room ahead where the disk has none for a piece of it, until none fits; with
+    room again the same book goes on, and its snapshot ends it."""
+    counts = []
+    for room in (0, BLOCK, PIECE - BLOCK, PIECE, PIECE + BLOCK, 2 * PIECE - BLOCK, 3 * PIECE):
+        small = Book(program, f"{disk}/small", [])
+        run("run", path=small.path)
+        lines = (OPENING + "open A P\nstart 1 A\n").splitlines(True) + weighings(3000)
+        leave(room)
+        status, said, errors = run("run", lines=lines, path=small.path)
+        need((status, said[-1]) == (6, "disk fault") and "No space left" in errors,
+             f"with {room} bytes a run ends with {status}: {said[-3:]} {errors}")
+        heard = small.compare_script(lines, said[:-1], killed=True)
+        # beside the book's first block; the system needs some blocks to find the others by
+        most = (room + 2 * BLOCK) // SLOT
+        need(most - 5 * BLOCK // SLOT <= heard <= most, f"with {room} bytes {heard} rows of {most}")
+        size = os.path.getsize(small.path)
+        need(size < SLOT * (small.rows + 2) + SLOT, f"{size} bytes are left of {small.rows} rows")
+        give_back()
+        more = weighings(1000)
+        status, said, _ = run("run", lines=more, path=small.path)
+        need(status == 0, f"with room again a run ends with {status}: {said[-3:]}")
+        small.compare_script(more, said[: len(more)], killed=False)
+        need("snapshot same" in run("audit", path=small.path)[1], "the snapshot doesn't fit")
+        os.remove(small.path)
+        counts.append(heard)
+    print(f"full at pieces of room: {counts} rows were answered, as many as fit")
 
 
 def full_at_the_snapshot():
@@ -200,6 +231,7 @@ def shut_down():
     os.close(folder)
 
 
+full_at_pieces()
 full_in_a_run()
 full_at_the_snapshot()
 full_under_serve()

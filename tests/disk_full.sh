@@ -1,6 +1,8 @@
 #!/bin/sh
 # A book on a small file system of its own (ext4 in a file, over a loop device; to be run as root):
 #
+# - it has less room than a piece of what a book grows by, as much, or more: rows are answered until
+#   none fits, and with room again the run goes on;
 # - it fills up in a run: status 6 and `disk fault`; each answered row stands, `check` and `export`
 #   read the book on the full disk, a further run fails and changes nothing; with room again the run
 #   goes on where it stopped;
