@@ -1,10 +1,13 @@
 // What the front hands on to the office: a question of its form, and an act of a desk that is among
 // those of the person who asks. Run by nginx (njs 0.7).
+//
+// `/rows/NUMBER` isn't among the questions: shipments are asked at the standby's own door, so that
+// nobody at the front fills that door or a desk's with the bytes of the whole book.
 
 import fs from 'fs';
 
-const QUESTION = new RegExp('^/hall/(summary|lanes/[0-9]{1,3}|packs/[0-9]{1,20}' +
-    '|batches/[A-Za-z0-9._-]{1,32}(/sample)?)$');
+const QUESTION = new RegExp('^/hall/(summary|acts/[0-9]{1,20}|lanes/[0-9]{1,3}' +
+    '|packs/[0-9]{1,20}|batches/[A-Za-z0-9._-]{1,32}(/sample|/packs/[0-9]{1,20})?)$');
 const ACTS = '/hall/acts';
 
 // The body of an act, as far as the front reads it: one flat object, whose texts have no escapes.

@@ -22,6 +22,8 @@ PEOPLE = {"anna": [101, 102], "ben": [103], "wall": []}
 PROMPT, HELD = 2.0, 8.0
 # Seconds for which the front waits for a free door before it says 502.
 PATIENCE = 10.0
+# How many rows an answer of the office has at most.
+PAGE = 128
 # Seconds in which a crowd of 200 is done, also on a machine that has hardly a processor to spare.
 CROWD = 400.0
 
@@ -83,8 +85,32 @@ def check_paths(front):
             ("GET", "/hall/packs/x", 404), ("GET", "/hall/batches/A/sample/x", 404),
             ("GET", "/hall/lanes/1", 200), ("GET", "/hall/batches/A", 200),
             ("GET", "/hall/batches/A/sample", 409), ("GET", "/hall/packs/1", 409),
+            ("GET", "/hall/acts/0", 200), ("POST", "/hall/acts/0", 405),
+            ("GET", "/hall/acts/x", 404), ("GET", "/hall/acts/0/1", 404),
+            ("GET", "/hall/batches/A/packs/x", 404), ("POST", "/hall/batches/A/packs/0", 405),
+            # shipments are for a standby's own door
+            ("GET", "/hall/rows/0", 404), ("POST", "/hall/rows/0", 404),
             ("GET", "/hall/%2e%2e/etc/passwd", 404), ("POST", "/index.html", 403)):
         expect(anna.send(method, path), status, f"{method} {path}")
+
+
+def check_pages(front, program, book):
+    """A page of 128 rows with names of 32 bytes comes through whole."""
+    anna = Person(front, "anna")
+    juice = "j" * 32
+    expect(anna.act(101, act="product_ml", name=juice, nominal=1000000), 200, "juice")
+    rows = int(anna.send("GET", "/hall/summary").fields["book-row"])
+    for number in range(PAGE + 1):
+        reply = anna.act(101, act="open_at", batch=f"{number:032}", product=juice, density=1040500)
+        expect(reply, 200, f"batch {number}")
+    # of a running book all but the newest row are read
+    text = run(program, "acts", "--book", book, "--after", str(rows))
+    reply = anna.send("GET", f"/hall/acts/{rows}")
+    expect(reply, 200, "a page")
+    need(reply.body.decode("ascii") == text and text.count("\n") == PAGE and len(text) > 13_000,
+         f"a page of {len(reply.body)} bytes for {len(text)}")
+    reply = anna.send("GET", f"/hall/acts/{rows + PAGE + 1}")
+    need((reply.status, reply.body) == (200, b""), f"behind the last row: {reply.body}")
 
 
 UNREADABLE = [
@@ -271,6 +297,7 @@ def main():
                   check_desks, check_bodies, check_slow, check_many):
         check(front)
         print(f"front: {check.__name__} holds", flush=True)
+    check_pages(front, program, book)
     check_two_halls(front, program, folder)
     check_walls(front, hall, lambda: make_hall(program, f"{folder}/hall", "", [], book))
     again = make_hall(program, f"{folder}/hall", "", [], book)

@@ -19,7 +19,8 @@ ADDRESSES = ("hall.example", "old.hall.example", "juice.hall.example")
 PLACES = """
     /usr/bin/hall /usr/sbin/hall-person /usr/sbin/hall-site /usr/sbin/hall-backup
     /usr/sbin/hall-status /usr/lib/hall/start /usr/lib/hall/watch /usr/lib/hall/stop
-    /usr/lib/hall/list /lib/systemd/system/hall@.service /lib/systemd/system/hall-list@.timer
+    /usr/lib/hall/list /usr/lib/hall/in_force.py /lib/systemd/system/hall@.service
+    /lib/systemd/system/hall-list@.service
     /lib/systemd/system/hall-backup@.timer /usr/share/hall/nginx.conf /usr/share/hall/site.conf
     /usr/share/hall/desks.js /usr/share/hall/hall.env /usr/share/hall/www/index.html
     /usr/share/hall/scales/lane.sh /usr/share/hall/scales/gate.sh /usr/bin/hall-adapter

@@ -1,7 +1,8 @@
 #!/usr/bin/env python3
 """Draws books of a day and more at random, through the script line by line, and compares what
 `list` says of each with what is counted here from the rows of its file, by docs/RULES.md and
-FORMATS.md.
+FORMATS.md. Then a list of the first rows is carried on by the acts behind them (deploy/in_force.py),
+and is the same as what is counted behind each row.
 
 usage: tests/list.py [BOOKS [SEED]]     (HALL names another program than the one that `./hall`
 builds)"""
@@ -16,6 +17,10 @@ from drawn_books import SECONDS, Draw, draw_book
 from rows import Piles, rows_behind
 
 HERE = os.path.dirname(os.path.realpath(__file__))
+sys.path.insert(0, f"{HERE}/../deploy")
+
+from in_force import InForce, Tare, Unclear  # noqa: E402
+
 STATES = {"end": "ended", "draw": "drawn", "close": "closed"}
 UNITS = {"product": "g", "product_ml": "ml"}
 
@@ -86,6 +91,46 @@ class Listing:
         yield f"rows {self.rows} left {max(0, limit - self.rows)}"
 
 
+class Counted(Listing):
+    """The same, asked what an act alone doesn't tell. It says how often."""
+
+    def __init__(self, rows):
+        super().__init__()
+        self.all, self.asked = rows, 0
+
+    def batch_of(self, pack):
+        return self.packs[pack]
+
+    def tares(self, rows):
+        self.asked += 1
+        return [Tare(act["product"], act["day"], grams(act["tare"]))
+                for act in (row.act for row in self.all[:rows]) if act["act"] == "tare"]
+
+
+def carried_on(program, book, limit, chance):
+    """Carries the list of some first rows on; how often it had to ask for all tares."""
+    rows = rows_behind(book, 0)
+    begun = chance.randint(0, len(rows))
+    ran = subprocess.run([program, "acts", f"--book={book}", f"--after={begun}"], check=True,
+                         capture_output=True, text=True, timeout=SECONDS)
+    counted = Counted(rows)
+    for row in rows[:begun]:
+        counted.add(row)
+    told = InForce.read("".join(f"{line}\n" for line in counted.text(limit)), limit)
+    for row, line in zip(rows[begun:], ran.stdout.splitlines(), strict=True):
+        told.take(line, counted)
+        counted.add(row)
+        wanted = "".join(f"{line}\n" for line in counted.text(limit))
+        if told.text() != wanted:
+            sys.exit(f"carried on from row {begun} by\n{line}\nit says\n{told.text()}"
+                     f"and not\n{wanted}")
+    try:
+        told.take(f"{len(rows)} ok\tscript\tday 2030-01-01", counted)
+        sys.exit(f"row {len(rows)} is taken twice")
+    except Unclear:
+        return counted.asked
+
+
 def compare(program, folder, chance):
     """A book, and what is said of it; how many lines that were, by their first words."""
     book = f"{folder}/book"
@@ -99,8 +144,9 @@ def compare(program, folder, chance):
     wanted = "".join(f"{line}\n" for line in listing.text(limit))
     if (told.stdout, told.returncode) != (wanted, 0):
         sys.exit(f"list says {told.returncode}\n{told.stdout}and not\n{wanted}")
+    asked = carried_on(program, book, limit, chance)
     os.remove(book)
-    return wanted.splitlines()
+    return wanted.splitlines() + ["all_tares"] * asked
 
 
 def main():
