@@ -26,6 +26,20 @@ export function readPack(number, text) {
     pile: words.at(-1) };
 }
 
+// The packs of a page, each in a line.
+export const readPacks = (text) => linesOf(text)
+  .map((line) => readPack(Number(line.split(" ")[1]), line));
+
+// Rows of the book as text: the number of each, what it was told, and the words of its act, without
+// its desk.
+export const readActs = (text) => linesOf(text).map((line) => {
+  const [told, , asked] = line.split("\t");
+  const [row, ...answer] = told.split(" ");
+  const words = asked.split(" ");
+  return { row: Number(row), told: answer.join(" "),
+    words: words[0].startsWith("@") ? words.slice(2) : words };
+});
+
 export function readSample(text) {
   const words = text.trim().split(" ").slice(3);
   const cut = words.indexOf("second");

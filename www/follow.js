@@ -1,16 +1,18 @@
-// Follows the book by its rows: what was answered is kept, and only what is new is asked. All
-// fetching of packs stands here.
+// Follows the book by its acts: one question asks for all that is new behind a row. What is shown of
+// a pack is reckoned from its act, with the tare that the book tells once for a batch and a day.
 
 import * as office from "./office.js";
-import { MOST_LANES } from "./rules.js";
+import { MOST_LANES, PAGE, classOf, limitsOf } from "./rules.js";
+import { Weighings } from "./weighings.js";
 
 // Packs by their number; null where a row is no pack.
 export const packs = new Map();
+const limits = new Map();
 const state = { rows: 0 };
 
 // A book of fewer rows than were seen is another book: nothing that is kept is of it.
 export function atRows(rows) {
-  if (rows < state.rows) packs.clear();
+  if (rows < state.rows) for (const kept of [packs, limits, paged, traces]) kept.clear();
   state.rows = rows;
 }
 
@@ -19,39 +21,116 @@ export async function packAt(number, anew = false) {
   return packs.get(number);
 }
 
-// The rows from one to another, as packs; those that are none are null.
-export function packsFrom(first, last) {
-  const numbers = Array.from({ length: Math.max(0, last - first + 1) }, (_, at) => first + at);
-  return Promise.all(numbers.map((number) => packAt(number)));
-}
-
 // What all lanes now do.
 export function allLanes() {
   const numbers = Array.from({ length: MOST_LANES }, (_, at) => at + 1);
   return Promise.all(numbers.map(office.lane));
 }
 
-// The same one after another, so that acts and other questions come in between.
-async function packsGently(first, last) {
-  const found = [];
-  for (let number = first; number <= last; number += 1) found.push(await packAt(number));
-  return found;
+async function limitsIn(batch) {
+  if (!limits.has(batch)) limits.set(batch, limitsOf(await office.sheet(batch)));
+  return limits.get(batch);
 }
 
-// The packs of a batch in order of weighing, walked back from the newest row until all are found.
-export async function packsOf(sheet, progress, take = packsFrom) {
-  const readings = sheet.piles.readings;
-  const found = [];
-  const STEP = 100;
-  for (let last = sheet.rows; last > 0 && found.length < readings; last -= STEP) {
-    const step = await take(Math.max(1, last - STEP + 1), last);
-    found.unshift(...step.filter((pack) => pack?.batch === sheet.batch));
-    if (!progress(found.length, readings, last)) break;
+// The acts behind a row, page by page until one isn't full; of more than so many the newest, behind
+// a gap.
+async function actsBehind(after, most) {
+  let { rows, acts } = await office.acts(after);
+  if (rows - after > most) ({ rows, acts } = await office.acts(rows - most));
+  const all = [...acts];
+  while (acts.length === PAGE) {
+    ({ rows, acts } = await office.acts(all.at(-1).row));
+    all.push(...acts);
   }
-  return found;
+  return { rows, acts: all };
 }
 
-export const packsOfGently = (sheet, progress) => packsOf(sheet, progress, packsGently);
+// A pack as it is shown, of what its act tells and of the tare of its batch and day.
+function packOf({ number, run: { batch }, lane, gross, signal, pile }, tare, bounds) {
+  const net = gross - tare;
+  return { number, batch, lane, gross, net, class: classOf(net, bounds), signal, pile };
+}
+
+// The tare of a pack's batch on its day, asked by that pack where it isn't known yet.
+async function tareFor(tares, { number, run, day }) {
+  const key = `${run.batch} ${day}`;
+  if (!tares.has(key)) {
+    const pack = await packAt(number, true);
+    tares.set(key, pack.gross - pack.net);
+  }
+  return tares.get(key);
+}
+
+// ---- what is new, for a page that is kept fresh
+
+// Asks the acts again and again. At first, and where more came than a page can use, it begins among
+// the newest rows.
+export class Follower {
+  constructor() {
+    this.asked = Promise.resolve();
+    this.forget();
+  }
+
+  forget() {
+    Object.assign(this, { seen: 0, weighings: new Weighings(), tares: new Map() });
+  }
+
+  // What is new: the rows of the book, packs, and what `Weighings.news` says besides. Packs that
+  // aren't wanted are left out. Of two who ask at once the second is told what came since.
+  news(most, isWanted = () => true) {
+    const next = () => this.ask(most, isWanted);
+    this.asked = this.asked.then(next, next);
+    return this.asked;
+  }
+
+  async ask(most, isWanted) {
+    const before = this.seen;
+    const { rows, acts } = await actsBehind(before, most);
+    atRows(rows);
+    if (rows < before) {
+      this.forget();
+      return { ...await this.ask(most, isWanted), isOther: true };
+    }
+    const isGap = before === 0 || acts[0]?.row > before + 1;
+    if (isGap) this.forget();
+    for (const act of acts) this.weighings.take(act);
+    const news = this.weighings.news();
+    if (news.isUnsure) this.tares.clear();
+    const fresh = await this.reckon(news.fresh.filter(isWanted));
+    for (const [number, pile] of news.moved) {
+      if (pile && packs.get(number)) packs.get(number).pile = pile;
+    }
+    this.seen = acts.at(-1)?.row ?? before;
+    const apart = before && acts.length ? (this.seen - before) / acts.length : 1;
+    return { ...news, rows, fresh, apart, isGap };
+  }
+
+  async reckon(fresh) {
+    const found = [];
+    for (const told of fresh) {
+      told.run.batch ??= (await packAt(told.number)).batch;
+      const tare = await tareFor(this.tares, told);
+      packs.set(told.number, packOf(told, tare, await limitsIn(told.run.batch)));
+      found.push(packs.get(told.number));
+    }
+    return found;
+  }
+}
+
+// ---- the packs of a batch
+
+// The newest packs may lie elsewhere once their gate was heard of: so many are read again.
+const UNSETTLED = 2 * MOST_LANES;
+// What was read of batches, of the newest few.
+const MOST_READ = 4;
+const paged = new Map();
+const traces = new Map();
+
+function keep(read, batch, what) {
+  read.delete(batch);
+  read.set(batch, what);
+  if (read.size > MOST_READ) read.delete(read.keys().next().value);
+}
 
 function isAsTold(sheet, found) {
   const pile = (word) => found.filter((pack) => pack.pile === word);
@@ -61,29 +140,114 @@ function isAsTold(sheet, found) {
     && counted.reduce((sum, pack) => sum + pack.net, 0) === sheet.net;
 }
 
-// The packs of a batch as they now lie. Where they don't add up to its sheet, a pack was voided or
-// drawn, its gate stayed shut or a tare was corrected: the last are asked again, and then all.
-export async function settledPacks(sheet, progress) {
-  const LAST = 20;
-  let found = await packsOf(sheet, progress);
-  for (const again of [found.slice(-LAST), found]) {
-    if (found.length < sheet.piles.readings || isAsTold(sheet, found)) break;
-    await Promise.all(again.map((pack) => packAt(pack.number, true)));
-    found = found.map((pack) => packs.get(pack.number));
+// The packs of a batch in order of weighing, a page at a time behind those that were read before;
+// nothing where the office has no such pages.
+async function pagedPacks(sheet, progress) {
+  const { readings } = sheet.piles;
+  const found = (paged.get(sheet.batch) ?? []).slice(0, -UNSETTLED);
+  for (let isMore = true; isMore;) {
+    const page = await office.packsBehind(sheet.batch, found.at(-1)?.number ?? 0);
+    if (!page) return null;
+    found.push(...page);
+    const has = Math.min(found.length, readings);
+    isMore = progress(has, readings, found.at(-1)?.number ?? 0) && page.length === PAGE
+      && has < readings;
   }
+  keep(paged, sheet.batch, found);
+  return found.slice(0, readings);
+}
+
+// Where the office has no pages of packs: the acts since the batch was opened, which tell its packs.
+class Trace {
+  constructor(batch) {
+    Object.assign(this, { batch, rows: 0, weighings: new Weighings(), found: new Map(),
+      tares: new Map() });
+  }
+
+  take(acts) {
+    for (const act of acts) this.weighings.take(act);
+    const { fresh, moved, isUnsure } = this.weighings.news();
+    for (const pack of fresh) {
+      if (pack.run.batch === this.batch) this.found.set(pack.number, pack);
+    }
+    for (const [number, pile] of moved) {
+      if (pile && this.found.has(number)) this.found.get(number).pile = pile;
+    }
+    if (isUnsure) this.tares.clear();
+    this.rows = acts.at(-1)?.row ?? this.rows;
+  }
+
+  // Goes on up to a row; at first the acts are read back to where the batch was opened.
+  async read(sheet, progress) {
+    const { rows } = sheet;
+    const isUpTo = ({ row }) => row <= rows;
+    if (this.rows) this.take((await actsBehind(this.rows, Infinity)).acts.filter(isUpTo));
+    else this.take(await actsBack(sheet, progress));
+  }
+
+  async packs(sheet) {
+    const { first, second } = sheet.first ? await office.sample(this.batch)
+      : { first: [], second: [] };
+    const sampled = new Set([...first, ...second]);
+    const bounds = limitsOf(sheet);
+    const found = [];
+    for (const told of this.found.values()) {
+      const pack = packOf(told, await tareFor(this.tares, told), bounds);
+      if (sampled.has(pack.number)) pack.pile = "sampled";
+      found.push(pack);
+    }
+    return found;
+  }
+}
+
+// Pages of acts that are read back at once.
+const BACK = 4;
+
+async function actsBack({ batch, rows, piles: { readings } }, progress) {
+  const parts = [];
+  for (let last = rows; last > 0; last -= BACK * PAGE) {
+    const pages = Array.from({ length: BACK }, (_, at) => last - (at + 1) * PAGE)
+      .filter((after) => after > -PAGE);
+    const read = await Promise.all(pages.map((after) => office.acts(Math.max(0, after), true)));
+    const step = read.map(({ acts }, at) => acts.filter(({ row }) => row <= pages[at] + PAGE));
+    parts.unshift(...step.reverse());
+    const isOpened = step.flat().some(({ words }) => words[0] === "open" && words[1] === batch);
+    if (isOpened || !progress(0, readings, Math.max(0, pages.at(-1)))) break;
+  }
+  return parts.flat();
+}
+
+async function tracedPacks(sheet, progress) {
+  const trace = traces.get(sheet.batch) ?? new Trace(sheet.batch);
+  await trace.read(sheet, progress);
+  const found = await trace.packs(sheet);
+  // one that was stopped on the way is begun anew the next time
+  if (found.length >= sheet.piles.readings) keep(traces, sheet.batch, trace);
+  progress(Math.min(found.length, sheet.piles.readings), sheet.piles.readings, trace.rows);
+  return found.slice(0, sheet.piles.readings);
+}
+
+export async function packsOf(sheet, progress) {
+  const found = await pagedPacks(sheet, progress) ?? await tracedPacks(sheet, progress);
+  for (const pack of found) packs.set(pack.number, pack);
   return found;
 }
 
-// ---- the lanes and batches of the hall, as a board or a lane follows them
+// The packs of a batch as they now lie. Where they don't add up to its sheet, a pack was voided or
+// drawn, or a tare was corrected meanwhile: then all are read again.
+export async function settledPacks(sheet, progress) {
+  const found = await packsOf(sheet, progress);
+  if (found.length < sheet.piles.readings || isAsTold(sheet, found)) return found;
+  paged.delete(sheet.batch);
+  traces.delete(sheet.batch);
+  return packsOf(sheet, progress);
+}
 
-// Rows that are asked at first, and at most at once; of more the newest are seen, and counted for
+// ---- the lanes and batches of the hall, as a board follows them
+
+// Rows that are read at first, and at most at once; of more the newest are seen, and counted for
 // those that weren't.
-const FIRST_ROWS = 96;
-const MOST_ROWS_ASKED = 96;
-// So many rows behind the first ones are looked through for earlier packs of the lanes.
-const MOST_ROWS_BACK = 2_000;
-// Where not every row is seen, lanes are asked at each so many times.
-const BLIND = 5;
+const MOST_ROWS_ASKED = 1_024;
 export const LAST_PACKS = 60;
 const MOST_BATCHES = 16;
 const MINUTE = 60_000;
@@ -94,74 +258,62 @@ const LEAST_COUNTED = 10_000;
 // newest stands for.
 export class Hall {
   constructor() {
-    Object.assign(this, { lanes: new Map(), sheets: new Map(), seen: 0, since: 0, apart: 1,
-      blind: 0, oldest: 0, furthest: 0, counted: 0 });
+    Object.assign(this, { lanes: new Map(), sheets: new Map(), follower: new Follower(), since: 0,
+      apart: 1, counted: 0 });
   }
 
-  // Asks what is new. Gives back the summary.
+  // Asks what is new. Gives back how many rows the book has.
   async refresh() {
-    const summary = await office.summary();
-    if (summary.rows < this.seen) this.forget();
-    atRows(summary.rows);
-    if (summary.rows > this.seen) await this.takeRows(summary.rows);
-    if (this.apart === 1) await this.takeEarlier();
-    this.counted = this.since ? Date.now() - this.since : 0;
+    const news = await this.follower.news(MOST_ROWS_ASKED);
+    if (news.isOther) this.forget();
+    await this.takeNews(news);
+    this.counted = Date.now() - this.since;
     const long = Date.now() - MINUTE;
     for (const lane of this.lanes.values()) {
       lane.times = lane.times.filter(([moment]) => moment > long);
     }
-    return summary;
+    return { rows: news.rows };
   }
 
   forget() {
-    this.seen = 0;
+    this.since = 0;
     this.lanes.clear();
     this.sheets.clear();
   }
 
-  async takeRows(rows) {
-    const isFirst = this.seen === 0;
-    const most = isFirst ? FIRST_ROWS : MOST_ROWS_ASKED;
-    const first = Math.max(this.seen + 1, rows - most + 1);
-    const found = await packsFrom(first, rows);
-    this.apart = isFirst ? 1 : (rows - this.seen) / found.length;
-    if (isFirst) {
-      Object.assign(this, { since: Date.now(), oldest: first, furthest: first - MOST_ROWS_BACK });
+  async takeNews(news) {
+    const isFirst = this.since === 0;
+    if (isFirst) this.since = Date.now();
+    this.apart = news.apart;
+    const touched = this.takePacks(news.fresh, isFirst);
+    for (const batch of news.named) touched.add(batch);
+    for (const [number] of news.moved) this.touch(touched, packs.get(number)?.batch);
+    if (news.isGap) await this.askLanes(touched);
+    else this.takeLanes();
+    if (news.isUnsure) {
+      this.touch(touched);
+      await Promise.all([...this.lanes.values()].map(askShown));
     }
-    const touched = this.takePacks(found.filter((pack) => pack), isFirst);
-    this.blind = this.apart > 1 ? this.blind + 1 : 0;
-    const isBlind = this.blind % BLIND === 1;
-    if (found.some((pack) => !pack) || isFirst || isBlind) await this.takeOthers(touched);
     await this.askSheets(touched);
-    this.seen = rows;
     prune(this.lanes);
   }
 
-  // Takes the packs of new rows to their lanes. Says which batches they are of.
+  // Has the sheet of a batch asked; where it isn't known which, those of all that are shown.
+  touch(touched, batch) {
+    for (const each of batch ? [batch] : this.sheets.keys()) touched.add(each);
+  }
+
+  // Takes new packs to their lanes. Says which batches they are of.
   takePacks(found, isFirst) {
     const touched = new Set();
     for (const pack of found) {
       const lane = this.laneOf(pack.lane);
-      lane.batch ??= pack.batch;
       lane.packs = [...lane.packs, pack.number].slice(-LAST_PACKS);
       if (!isFirst) lane.times.push([Date.now(), this.apart]);
       lane.at = Date.now();
       touched.add(pack.batch);
     }
     return touched;
-  }
-
-  // Takes packs before the first ones that were seen, until each lane has as many as are shown.
-  async takeEarlier() {
-    const isWanting = [...this.lanes.values()].some(({ packs: has }) => has.length < LAST_PACKS);
-    if (!isWanting || this.oldest <= Math.max(1, this.furthest)) return;
-    const first = Math.max(1, this.oldest - MOST_ROWS_ASKED);
-    const found = await packsFrom(first, this.oldest - 1);
-    this.oldest = first;
-    for (const pack of found.reverse().filter((one) => one)) {
-      const lane = this.lanes.get(pack.lane);
-      if (lane && lane.packs.length < LAST_PACKS) lane.packs = [pack.number, ...lane.packs];
-    }
   }
 
   laneOf(number) {
@@ -171,14 +323,21 @@ export class Hall {
     return this.lanes.get(number);
   }
 
-  // A row that is no pack may have changed a lane, a pile or a tare.
-  async takeOthers(touched) {
+  // What the lanes do, as their acts say.
+  takeLanes() {
+    for (const [number, { batch }] of this.follower.weighings.lanes) {
+      if (batch !== null) this.laneOf(number).batch = batch || null;
+    }
+  }
+
+  // At first, and behind a gap, it is asked.
+  async askLanes(touched) {
     for (const { number, batch } of await allLanes()) {
       if (batch || this.lanes.has(number)) this.laneOf(number).batch = batch;
+      if (batch) touched.add(batch);
     }
     await Promise.all([...this.lanes.values()].map(askShown));
-    for (const { batch } of this.lanes.values()) if (batch) touched.add(batch);
-    for (const batch of this.sheets.keys()) touched.add(batch);
+    this.touch(touched);
   }
 
   async askSheets(batches) {

@@ -5,7 +5,7 @@ import * as office from "./office.js";
 import { MOST_PACKS, limitsOf } from "./rules.js";
 import { addWords, say, time, word } from "./words.js";
 import { ago, count, grams, mass, quantity } from "./numbers.js";
-import { allLanes, atRows, packAt, packsFrom } from "./follow.js";
+import { Follower, allLanes, packAt } from "./follow.js";
 import { icon, loadStyles, make, meter, put, shape, signalTag } from "./page.js";
 import { keepText, readText } from "./store.js";
 import { forecastOf } from "./forecast.js";
@@ -53,8 +53,7 @@ addWords({
 
 const KEPT = "hall.lane";
 const SHOWN = 10;
-const MOST_ROWS = 96;
-const FIRST_ROWS = 400;
+const MOST_ROWS = 512;
 const SHEET_EVERY = 1_500;
 const LATE = 8_000;
 
@@ -63,19 +62,18 @@ export const every = 400;
 
 const state = { lane: 0, batch: null, unsettled: null, packs: [], rows: 0, sheet: null, askedAt: 0,
   since: 0 };
+const follower = new Follower();
 let place;
 
 // ---- what is new
 
-async function takeRows(rows) {
-  const isFirst = state.rows === 0;
-  const first = Math.max(state.rows + 1, rows - (isFirst ? FIRST_ROWS : MOST_ROWS) + 1);
-  const found = (await packsFrom(first, rows)).filter((pack) => pack?.lane === state.lane);
-  if (found.length) state.since = Date.now();
-  state.packs = [...state.packs, ...found].slice(-SHOWN);
-  state.rows = rows;
-  // a void, a draw or a tare may have changed the packs that are shown
-  if (found.length === 0) {
+async function takeRows() {
+  const news = await follower.news(MOST_ROWS, ({ lane }) => lane === state.lane);
+  if (news.fresh.length) state.since = Date.now();
+  state.packs = [...news.isOther ? [] : state.packs, ...news.fresh].slice(-SHOWN);
+  state.rows = news.rows;
+  // a draw or a tare may have changed the packs that are shown
+  if (news.isUnsure || news.isGap) {
     state.packs = await Promise.all(state.packs.map(({ number }) => packAt(number, true)));
   }
   state.isNew = true;
@@ -95,9 +93,8 @@ async function askSheet() {
 async function ask() {
   const { rows, batch, unsettled } = await office.lane(state.lane);
   if (rows < state.rows) Object.assign(state, { rows: 0, packs: [], sheet: null });
-  atRows(rows);
   Object.assign(state, { batch, unsettled });
-  if (rows > state.rows) await takeRows(rows);
+  if (rows !== state.rows) await takeRows();
   await askSheet();
 }
 
@@ -265,6 +262,7 @@ export async function show(about) {
   keepText(KEPT, String(wanted));
   if (wanted !== state.lane) {
     Object.assign(state, { lane: wanted, packs: [], rows: 0, sheet: null, since: Date.now() });
+    follower.forget();
     buildStation();
   }
   await refresh();

@@ -12,8 +12,7 @@ import { refusal } from "./refusals.js";
 addWords({
   reading: ["{found} of {all} packs read, at row {row}",
     "{found} von {all} Packungen gelesen, bei Zeile {row}"],
-  partly: ["Shown are the last {found} of {all} packs.",
-    "Gezeigt sind die letzten {found} von {all} Packungen."],
+  partly: ["Shown are {found} of {all} packs.", "Gezeigt sind {found} von {all} Packungen."],
 });
 
 // A page about a batch: a field for its name, and below it what `draw` makes of its packs.

@@ -11,7 +11,7 @@ import { count, fixed, grams } from "./numbers.js";
 import { icon, make, notice, put, shape, tag } from "./page.js";
 import { keepMeasured, measuredOf } from "./measured.js";
 import { limitsOf, planOf } from "./rules.js";
-import { packAt, packsOfGently } from "./follow.js";
+import { packAt, packsOf } from "./follow.js";
 
 addWords({
   mPlace: ["{at} of {all}", "{at} von {all}"],
@@ -132,7 +132,7 @@ function squares(task, next) {
 
 // Reads the batch's packs once, beside the measuring, and says where a pack lies.
 async function readOrder(task, isWanted) {
-  const packs = await packsOfGently(task.sheet, isWanted);
+  const packs = await packsOf(task.sheet, isWanted);
   const lanes = new Map();
   task.order = new Map();
   for (const { number, lane } of packs) {

@@ -1,6 +1,7 @@
 // Asks the office its questions, and the front the files beside them.
 
-import { readLanes, readList, readPack, readSample, readSheet, readSummary } from "./answers.js";
+import { readActs, readLanes, readList, readPack, readPacks, readSample, readSheet, readSummary }
+  from "./answers.js";
 
 // Milliseconds that an answer is waited for: longer than the front itself waits for a door.
 export const PATIENCE = 20_000;
@@ -42,14 +43,15 @@ export async function reach(path, options = {}) {
   }
 }
 
-// The answer to a question: `text`, or `refused` with its number, name and what is kept.
-export async function ask(path, canWait = false) {
+// The answer to a question: `text`, or `refused` with its number, name and what is kept. Other
+// statuses than these are no answer, but for those that are named.
+export async function ask(path, canWait = false, besides = []) {
   await enter(canWait);
   try {
     const answer = await reach(`hall/${path}`);
-    if (![200, 409].includes(answer.status)) throw new Missing(String(answer.status));
+    if (![200, 409, ...besides].includes(answer.status)) throw new Missing(String(answer.status));
     Object.assign(link, { at: Date.now(), why: "" });
-    return answer.status === 200 ? answer : { ...answer, ...JSON.parse(answer.text) };
+    return answer.status === 409 ? { ...answer, ...JSON.parse(answer.text) } : answer;
   } catch (fault) {
     link.why = fault.message;
     throw fault;
@@ -84,6 +86,22 @@ export async function lane(number) {
 export async function pack(number) {
   const answer = await ask(`packs/${number}`, true);
   return answer.refused === PACK_UNKNOWN ? null : readPack(number, answer.text);
+}
+
+// The acts behind a row, a page of them, and how many rows the book has.
+export async function acts(after, canWait = false) {
+  const answer = await ask(`acts/${after}`, canWait);
+  return { rows: answer.row, acts: readActs(answer.text) };
+}
+
+// The packs of a batch behind a row, a page of them; nothing where the office knows no such path.
+let hasPages = true;
+
+export async function packsBehind(batch, after) {
+  if (!hasPages) return null;
+  const answer = await ask(`batches/${batch}/packs/${after}`, true, [404]);
+  hasPages = answer.status !== 404;
+  return answer.status === 200 ? readPacks(answer.text) : null;
 }
 
 // The drawn packs in drawing order; none where nothing was drawn.

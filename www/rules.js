@@ -6,6 +6,8 @@
 export const MOST_PACKS = 10_000;
 export const MOST_ROWS = 1_000_000;
 export const MOST_LANES = 16;
+// How many rows or packs an answer of the office has at most; one with fewer is the last.
+export const PAGE = 128;
 // One pack in so many may be non-standard.
 export const ONE_IN = 40;
 // From so many packs on a batch has a plan with two samples.
