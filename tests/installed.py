@@ -24,7 +24,8 @@ PLACES = """
     /lib/systemd/system/hall-backup@.timer /usr/share/hall/nginx.conf /usr/share/hall/site.conf
     /usr/share/hall/desks.js /usr/share/hall/hall.env /usr/share/hall/www/index.html
     /usr/share/hall/scales/lane.sh /usr/share/hall/scales/gate.sh /usr/bin/hall-adapter
-    /usr/bin/hall-inspect /usr/share/hall/scales/scale_sender.py /usr/share/hall/standby.sh /etc/hall/hall.nft
+    /usr/bin/hall-inspect /usr/share/hall/scales/scale_sender.py /usr/share/hall/standby.sh
+    /usr/share/hall/shipments.py /etc/hall/hall.nft
     /usr/share/bash-completion/completions/hall /usr/share/doc/hall/examples/draw_again.sh
     /usr/share/doc/hall/examples/papers/released.txt /usr/share/doc/hall/docs/screen_board.png
 """.split()

@@ -19,7 +19,7 @@ STANDBY = os.path.join(os.path.dirname(HERE), "examples", "standby.sh")
 LANES, DESKS = 2, 2
 # How long the first hall is left to itself, in seconds, and how long there is between shipments.
 SHORTEST, LONGEST = 0.5, 5.0
-EVERY = 0.25
+EVERY = 0.2
 CLONE_NEWNET = 0x40000000
 
 
@@ -135,14 +135,14 @@ class Round:
             host.close()
 
     def hall(self, host, book, batches):
-        """A hall at a host, with its lanes and its desks at work."""
+        """A hall at a host, with its lanes and its desks at work, and a door for the standby."""
         folder = f"{self.folder}/{host.name}"
         os.mkdir(folder)
         setup = OPENING if batches == 1 else ""
         setup += "".join(f"open L{lane}-{batches} P\n" for lane in range(1, LANES + 1))
         names = [f"L{lane}-{batches}" for lane in range(1, LANES + 1)]
         hall = Hall(host.program(folder, self.program), folder, plan(setup, names), book=book,
-                    lanes=LANES, doors=DESKS, port=self.port, connections=999_999)
+                    lanes=LANES, doors=DESKS + 1, port=self.port, connections=999_999)
         pieces = [[good_gross(self.draw) for _ in range(4)] for _ in range(20_000)]
         lanes = [Lane(hall, lane, pieces[lane::LANES]) for lane in range(1, LANES + 1)]
         return hall, lanes
@@ -164,7 +164,8 @@ class Round:
                                  f"{HERE}/there.py", address[0], str(address[1]))
         with open(f"{self.folder}/standby", "wb") as said:
             process = subprocess.Popen(words, stdout=said, stderr=said, start_new_session=True,
-                                       env=os.environ | {"HALL": self.program, "EVERY": str(EVERY)})
+                                       env=os.environ | {"HALL": self.program, "EVERY": str(EVERY),
+                                                         "DOOR": str(self.port + DESKS)})
         return process, made[0]
 
     def run(self):

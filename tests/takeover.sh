@@ -1,7 +1,7 @@
 #!/bin/sh
 # Two hosts in network namespaces of the test's own, joined by a cable: a hall at the first, with
-# two lanes and two desks at work, whose book examples/standby.sh ships to the second each quarter
-# of a second. At a drawn moment the cable is cut and all that ran at the first host is killed. Then
+# two lanes and two desks at work, whose book examples/standby.sh ships to the second by a door of
+# its own, five times a second. At a drawn moment the cable is cut and all that ran at the first host is killed. Then
 # a hall is served at the second host from the copy, and the desks ask again under the same numbers.
 #
 # Compared: the copy is the beginning of the first's book, row by row; the hall that takes over
