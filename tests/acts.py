@@ -7,7 +7,9 @@ bytes of the rows, by docs/FORMATS.md. Then:
 - the first column is what was answered: by hand in the worked days, by `run` in the drawn books;
 - the third column as a script makes a book whose rows are the same but for who asked, answered by
   the first column; so does the text behind N rows over a book that holds the first N;
-- the text behind N rows is the end of the whole text, and nothing behind the last row.
+- the text behind N rows is the end of the whole text, and nothing behind the last row;
+- `acts N` of a script and `/acts/N` of a hall, each asked behind the last row of the answer before,
+  joined are the text, and `/rows/N` is the shipment of the rows of such an answer.
 One drawn book is shipped with a caller that no hall of today names.
 
 usage: tests/acts.py [BOOKS [SEED]]     (HALL names another program than the one that `./hall`
@@ -21,7 +23,7 @@ import sys
 import tempfile
 from collections import Counter
 
-from clients import (FIRST_DOOR, Desk, Hall, Lane, Link, Wrong, drawn_gross, free_ports, need,
+from clients import (FIRST_DOOR, Desk, Hall, Lane, Link, Wrong, drawn_gross, free_ports, get, need,
                      plan)
 from day_texts import read_days
 from drawn_books import Draw, draw_book
@@ -32,7 +34,9 @@ SECONDS = 60
 # What is asked of a drawn book before its lanes and doors work, and the desks that ask.
 SETUP = ("@163 1 product P 250\n@163 2 tare P 2025-01-01 10\n@163 3 open L1 P\n@163 4 open L2 P\n")
 DESKS = (110, 111)
-HEAD = 16
+HEAD, MARK = 16, b"AQHSHIP2"
+# How many rows an answer has at most.
+PAGE = 128
 # A worked day whose script is longer is passed over: each of its rows waits for the disk.
 LONGEST_DAY = 20_000
 # Where a row says who asked it, and the number of a caller that is neither script, lane nor door.
@@ -77,6 +81,14 @@ def slots_of(book):
 
 def without_caller(slot):
     return slot[: BY.start] + bytes(2) + slot[BY.stop :]
+
+
+def shipment(slots, after):
+    """A page of rows, as `ship` writes it of the list up to the last of them."""
+    first = min(after, len(slots))
+    rows = slots[first : first + PAGE]
+    head = [count.to_bytes(4, "little") for count in (first + len(rows), first)]
+    return b"".join([MARK, *head, *rows])
 
 
 def answered(printed):
@@ -124,6 +136,8 @@ class Program:
             need(found[0] == answers.get(number, found[0]) and found[0].split()[0] == str(number),
                  f"row {number} says {found[0]!r} and was told {answers.get(number)!r}")
         self.check_pages(book, lines, chance)
+        self.check_script(book, lines)
+        self.check_office(book, lines, slots, chance)
         for held in {0, chance.randint(0, len(lines))}:
             self.check_replay(columns, slots, held)
         return columns
@@ -132,6 +146,40 @@ class Program:
         for after in {1, chance.randint(0, len(lines) + 1), len(lines), len(lines) + 1, 1_000_000}:
             wanted = "".join(f"{line}\n" for line in lines[after:])
             need(self.acts(book, after) == wanted, f"behind row {after} there is another text")
+
+    def check_script(self, book, lines):
+        """The pages as a script asks for them, of which no row is made."""
+        asked = [f"acts {after}" for after in range(0, len(lines) + PAGE, PAGE)]
+        said = self.replayed(book, asked).splitlines()
+        need(said[: len(lines)] == lines and said[len(lines)] == f"rows {len(lines)}",
+             "a script's pages aren't the text")
+
+    def check_office(self, book, lines, slots, chance):
+        """The pages at a door, and the shipments of their rows."""
+        folder = tempfile.mkdtemp(dir=self.folder)
+        port = free_ports()
+        hall = Hall(self.path, folder, plan("", []), book=book, doors=1, port=port)
+        hall.wait_for_door(port)
+        with Link(port) as link:
+            found, after = [], 0
+            while page := self.asked(link, f"/acts/{after}", len(lines)).decode().splitlines():
+                need(len(page) <= PAGE, f"a page of {len(page)} rows")
+                found += page
+                after = int(page[-1].split()[0])
+            need(found == lines, "the pages at a door aren't the text")
+            for after in {0, chance.randint(0, len(lines)), len(lines), len(lines) + 1, 4_294_967_295}:
+                need(self.asked(link, f"/rows/{after}", len(lines)) == shipment(slots, after),
+                     f"the rows behind {after} are another shipment")
+                text = "".join(f"{line}\n" for line in lines[after : after + PAGE])
+                need(self.asked(link, f"/acts/{after}", len(lines)).decode() == text,
+                     f"the page behind {after} is another one")
+        need(hall.wait(SECONDS) == 0, f"the hall ended badly: {hall.said()}")
+
+    def asked(self, link, path, rows):
+        """The body of what a door answers, at the length of the book."""
+        answer = link.ask(get(path))
+        need((answer.status, answer.row) == (200, rows), f"{path} is answered {answer}")
+        return answer.body
 
     def check_replay(self, columns, slots, held):
         """A book of the first rows, and then the others."""
