@@ -107,7 +107,7 @@ def check_pages(front, program, book):
     text = run(program, "acts", "--book", book, "--after", str(rows))
     reply = anna.send("GET", f"/hall/acts/{rows}")
     expect(reply, 200, "a page")
-    need(reply.body.decode("ascii") == text and text.count("\n") == PAGE and len(text) > 13_000,
+    need(reply.body.decode("ascii") == text and text.count("\n") == PAGE and len(text) > 12_000,
          f"a page of {len(reply.body)} bytes for {len(text)}")
     reply = anna.send("GET", f"/hall/acts/{rows + PAGE + 1}")
     need((reply.status, reply.body) == (200, b""), f"behind the last row: {reply.body}")

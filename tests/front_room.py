@@ -63,11 +63,11 @@ def mount_room():
 
 
 def add_hall_user():
-    """In this room there is a user `hall`, whom the walls and the program know."""
+    """In this room there are a user `hall` and a group `hall-doors`, whom the walls know."""
     for path, line in (("/etc/passwd", f"hall:x:{HALL_ID}:{HALL_ID}::/var/lib/hall:/bin/false\n"),
-                       ("/etc/group", f"hall:x:{HALL_ID}:\n")):
+                       ("/etc/group", f"hall:x:{HALL_ID}:\nhall-doors:x:{HALL_ID + 1}:\n")):
         with open(path, encoding="utf-8") as file:
-            lines = [known for known in file if not known.startswith("hall:")]
+            lines = [known for known in file if not known.startswith(("hall:", "hall-doors:"))]
         copy = f"/run/{os.path.basename(path)}"
         with open(copy, "w", encoding="utf-8") as file:
             file.writelines([*lines, line])

@@ -194,11 +194,11 @@ def check_books(front: Any, folder: str) -> None:
 # ---- the walls
 
 
-def as_user(user: str, *words: str) -> list[str]:
+def as_user(user: str, *words: str, group: str = "") -> list[str]:
     return [
         "setpriv",
         f"--reuid={user}",
-        f"--regid={user_group(user)}",
+        f"--regid={group or user_group(user)}",
         "--clear-groups",
         sys.executable,
         "-c",
@@ -230,9 +230,10 @@ def heard(user: str, port: int) -> str:
     return asked.stdout
 
 
-def reaches(user: str, port: int) -> bool:
-    """Whether a user of this machine reaches a port."""
-    words = as_user(user, f"import socket; socket.create_connection(('127.0.0.1', {port}), 5)")
+def reaches(user: str, port: int, group: str = "") -> bool:
+    """Whether a user of this machine reaches a port, in a group."""
+    connect = f"import socket; socket.create_connection(('127.0.0.1', {port}), 5)"
+    words = as_user(user, connect, group=group)
     return subprocess.run(words, capture_output=True).returncode == 0
 
 
@@ -260,6 +261,7 @@ def check_walls(front: Any, hall: Any, begin: Callable[[], Any]) -> None:
     load()
     for user, may in (("nobody", False), ("root", False), ("hall", False), ("www-data", True)):
         need(reaches(user, FIRST_PORT) == may, f"{user} at a door: not {may}")
+    need(reaches("hall", FIRST_PORT, "hall-doors"), "the list and the standby reach no door")
     with answerer("hall", SCALE_PORT, "ack 1\n"):
         for user, text in (("nobody", ""), ("root", ""), ("www-data", ""), ("hall", "ack 1\n")):
             need(heard(user, SCALE_PORT) == text, f"{user} at a scale's port doesn't hear {text!r}")

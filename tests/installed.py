@@ -19,12 +19,13 @@ ADDRESSES = ("hall.example", "old.hall.example", "juice.hall.example")
 PLACES = """
     /usr/bin/hall /usr/sbin/hall-person /usr/sbin/hall-site /usr/sbin/hall-backup
     /usr/sbin/hall-status /usr/lib/hall/start /usr/lib/hall/watch /usr/lib/hall/stop
-    /usr/lib/hall/list /lib/systemd/system/hall@.service /lib/systemd/system/hall-list@.timer
+    /usr/lib/hall/list /usr/lib/hall/in_force.py /lib/systemd/system/hall@.service
+    /lib/systemd/system/hall-list@.service
     /lib/systemd/system/hall-backup@.timer /usr/share/hall/nginx.conf /usr/share/hall/site.conf
     /usr/share/hall/desks.js /usr/share/hall/pages.js /usr/share/hall/hall.env /usr/share/hall/www/index.html
     /usr/share/hall/scales/lane.sh /usr/share/hall/scales/gate.sh /usr/bin/hall-adapter
     /usr/bin/hall-inspect /usr/bin/hall-count /usr/share/hall/scales/scale_sender.py
-    /usr/share/hall/standby.sh /etc/hall/hall.nft
+    /usr/share/hall/standby.sh /usr/share/hall/shipments.py /etc/hall/hall.nft
     /usr/share/bash-completion/completions/hall /usr/share/doc/hall/examples/draw_again.sh
     /usr/share/doc/hall/examples/papers/released.txt /usr/share/doc/hall/docs/screen_board.png
 """.split()

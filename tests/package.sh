@@ -96,7 +96,7 @@ done
 
 # ---- the service, as systemd judges it
 inside systemd-analyze verify --man=no /lib/systemd/system/hall@.service \
-    /lib/systemd/system/hall-list@.service /lib/systemd/system/hall-list@.timer >"$room/log" 2>&1 ||
+    /lib/systemd/system/hall-list@.service >"$room/log" 2>&1 ||
     { cat "$room/log" >&2; fail "the service isn't well made"; }
 [ ! -s "$room/log" ] || { cat "$room/log" >&2; fail "systemd has a word on the service"; }
 cp "$debian/lib/systemd/system/hall@.service" "$room/hall@day.service"
