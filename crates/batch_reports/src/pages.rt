@@ -2,6 +2,7 @@ ghost use Rattle.std.specs.Prelude.{◌≡◌, ◌+◌, ◌*◌, length};
 ghost use Rattle.std.specs.List.{AllByRecursion};
 ghost use Rattle.book_words.specs.Ranges.{IsLawfulSomewhere, IsPageInRange};
 ghost use Rattle.book_texts.specs.Appending.{HasRoom, Appended};
+ghost use Rattle.row_format.specs.Spelling.{four};
 ghost use Rattle.act_lines.specs.ActLines.{act_text};
 ghost use Rattle.batch_reports.specs.Texts.{lines_of, rows_of, row_of, shipment_text};
 
@@ -42,7 +43,6 @@ fn push_line(to: &mut Vec<u8>, view: &ActView)
 }
 
 /// Appends a page as a shipment: its head, and its rows.
-#[tactic(auto, unfolding(crate::specs::Texts::shipment_text))]
 pub fn push_shipment(to: &mut Vec<u8>, view: &RowsView)
     requires room { HasRoom to.old (SHIP_HEAD + ROW_BYTES * length view.now.acts) }
     requires range { IsPageInRange view.now }
@@ -51,9 +51,17 @@ pub fn push_shipment(to: &mut Vec<u8>, view: &RowsView)
 {
     let acts = view.acts.as_slice();
     append(to, b"AQHSHIP2");
-    append(to, &(view.before + acts.len() as u32).to_le_bytes());
-    append(to, &view.before.to_le_bytes());
+    push_four(to, view.before + acts.len() as u32);
+    push_four(to, view.before);
     push_rows(to, acts);
+}
+
+// Appends a number of four bytes.
+fn push_four(to: &mut Vec<u8>, number: u32)
+    requires { HasRoom to.old 4 }
+    ensures { Appended to.old to.new (four number) 4 }
+{
+    append(to, &number.to_le_bytes());
 }
 
 // Appends some rows as they stand in a book.
