@@ -6,7 +6,8 @@
 # desk voids a pack and loses the answer, asks again, ends the batch, draws it, measures what was
 # drawn, is refused a second sample, closes it and reads its sheet. Then it enters juice, which is
 # sold by volume: a batch of it without its density and one too light are refused, the next is
-# weighed on lane 1, measured whole and closed. Each request is a connection of its own.
+# weighed on lane 1, measured whole and closed. At the end its rows are read by the page, as lines and
+# as a shipment. Each request is a connection of its own.
 #
 # usage: tests/office.sh     (HALL names another program than the one that `./hall` builds)
 set -eu
@@ -90,13 +91,15 @@ act $opening '"open_at","batch":"J","product":"juice","density":499999' >>"$room
 act $opening '"open_at","batch":"J","product":"juice","density":1040500' >>"$room/http"
 wait
 weighings J $BOTTLES 1078.250 | "$hall" run --book "$room/office.book" >/dev/null
-serve $((3 + BOTTLES + 2 + 2))
+serve $((3 + BOTTLES + 2 + 2 + 5))
 act $((next + 3)) '"end","batch":"J"' >>"$room/http"
 act $((next + 4)) '"draw","batch":"J","mode":"keep","word":5' >>"$room/http"
 page batches/J/sample >"$room/sample.J"
 measure J 1078250 $((next + 5)) >>"$room/http"
 page batches/J >>"$room/http"
 page summary >>"$room/http"
+for after in 0 128 1000000; do page acts/$after >>"$room/acts"; done
+for after in 0 128; do page rows/$after >"$room/rows.$after"; done
 wait
 
 # ---- the same day as scripts
@@ -135,6 +138,13 @@ weighings J $BOTTLES 1078.250 | run >/dev/null
 } | run >>"$room/script"
 
 diff "$room/script" "$room/http"
+
+# ---- its rows by the page, beside the commands
+"$hall" acts --book "$room/office.book" | diff - "$room/acts"
+"$hall" ship --book "$room/office.book" --after 128 | cmp - "$room/rows.128"
+test "$(head -c 16 "$room/rows.0" | od -An -tx1 | tr -d ' ')" = 41514853484950328000000000000000
+"$hall" ship --book "$room/office.book" | tail -c +17 | head -c $((96 * 128)) >"$room/first"
+tail -c +17 "$room/rows.0" | cmp - "$room/first"
 grep -q "nominal 1000.000 ml .* density 1040.500" "$room/http"
 test "$(grep -c 'refused 35 DensityRange at' "$room/http")" = 2
 grep -c . "$room/http" | sed 's/^/office: the same day by curl and by script, lines: /'

@@ -17,7 +17,8 @@ drop_none (suc count) = refl
 
 fronts : (after count : ℕ) (entries : List Entry)
     → take (after + count) entries ≡ take after entries ++ take count (drop after entries)
-fronts zero count entries = refl
+fronts zero count entries =
+    ap (λ n. take n entries) (let same : zero + count ≡ count = omega arith in same)
 fronts (suc after) count [] = take_none (suc after + count) ∙ sym (take_none count)
 fronts (suc after) count (entry ∷ entries) =
     ap (λ n. take n (entry ∷ entries)) (let more : suc after + count ≡ suc (after + count) = omega arith in more)
@@ -25,7 +26,8 @@ fronts (suc after) count (entry ∷ entries) =
 
 ends : (after count : ℕ) (entries : List Entry)
     → drop (after + count) entries ≡ drop count (drop after entries)
-ends zero count entries = refl
+ends zero count entries =
+    ap (λ n. drop n entries) (let same : zero + count ≡ count = omega arith in same)
 ends (suc after) count [] = drop_none (suc after + count) ∙ sym (drop_none count)
 ends (suc after) count (entry ∷ entries) =
     ap (λ n. drop n (entry ∷ entries)) (let more : suc after + count ≡ suc (after + count) = omega arith in more)
@@ -50,7 +52,7 @@ pub parted_after : (count after : ℕ) (entries : List Entry)
 parted_after count after entries =
     parted count (take after entries) (drop after entries)
     ∙ (λ i. take count (views_after after entries)
-    ++ views_behind (fronts after count entries (~ i)) (ends after count entries (~ i)))
+    ++ views_behind (sym (fronts after count entries) i) (sym (ends after count entries) i))
 
 -- the first rows are told as they are of the whole list
 pub taken : (count : ℕ) (before entries : List Entry)

@@ -79,7 +79,7 @@ module _ (most after : ℕ) (entries : List Entry) where
       let passed : min after (length (take last entries)) ≡ before =
       ap (min after) count ∙ all_told in
       ap (λ t. codes "AQHSHIP2" ++ four last ++ four before ++ t) rows
-      ∙ (λ i. shape (count (~ i)) (passed (~ i)) (take last entries))
+      ∙ (λ i. shape (sym count i) (sym passed i) (take last entries))
 
 page_shipped : (after : ℕ) (entries : List Entry) → let page = page_after after entries in
     shipment_text page ≡ shipment after (take (page.before + length page.acts) entries)
