@@ -1,4 +1,4 @@
-"""The figures of bench/rows.sh: FOLDER ROWS."""
+"""The figures of bench/rows.sh: FOLDER ROWS PROGRAM.."""
 
 import os
 import subprocess
@@ -6,7 +6,7 @@ import sys
 import time
 from functools import partial
 
-folder, rows = sys.argv[1], int(sys.argv[2])
+folder, rows, programs = sys.argv[1], int(sys.argv[2]), sys.argv[3:]
 SLOT, TURNS = 96, 5
 
 
@@ -19,7 +19,7 @@ def fresh(name: str) -> str:
 
 def by_journal(program: str) -> float:
     """The seconds of a process that makes a book of the rows."""
-    words = [f"{folder}/{program}", str(rows), fresh("book")]
+    words = [program, str(rows), fresh("book")]
     began = time.perf_counter()
     ran = subprocess.run(words, capture_output=True, check=True)
     seconds = time.perf_counter() - began
@@ -46,9 +46,7 @@ def by_loop(over: bool) -> float:
 
 
 ways = {"loop over zeros": partial(by_loop, True), "loop that grows": partial(by_loop, False)}
-for name in sorted(os.listdir(folder)):
-    if name.startswith("program-"):
-        ways[f"journal {name.removeprefix('program-')}"] = partial(by_journal, name)
+ways |= {os.path.basename(program): partial(by_journal, program) for program in programs}
 best = dict.fromkeys(ways, float("inf"))
 for _ in range(TURNS):
     best = {name: min(best[name], way()) for name, way in ways.items()}

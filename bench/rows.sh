@@ -7,15 +7,16 @@
 # usage: bench/rows.sh FOLDER [ROWS]      2 000 rows if it isn't named
 set -eu
 here=$(dirname "$(readlink -f "$0")")
-files=$(mktemp -d "$1/hall_rows.XXXXXX")
-trap 'rm -rf "$files"' EXIT
+folder=$(mktemp -d "$1/hall_rows.XXXXXX")
+programs=$(mktemp -d)
+trap 'rm -rf "$folder" "$programs"' EXIT
 
 . "$here/program.sh"
 built() {
-    work=$files/$1
+    work=$programs/crates
     mkdir "$work"
     build_program journal_rows book_journal book_snapshot disk_core file_disk hall_limits hall_units
-    mv "$program" "$files/program-$1"
+    mv "$program" "$programs/journal-$1"
     rm -rf "$work"
 }
 built now
@@ -23,4 +24,4 @@ if [ -n "${BEFORE:-}" ]; then
     CRATES=$BEFORE/crates
     built before
 fi
-python3 -B "$here/rows.py" "$files" "${2:-2000}"
+python3 -B "$here/rows.py" "$folder" "${2:-2000}" "$programs"/journal-*

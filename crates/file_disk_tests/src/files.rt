@@ -90,3 +90,45 @@ fn a_path_that_names_another_file_fails(rt: HostRuntime) -> Result<(), Fail> {
     fs::remove_dir_all(&rt, NAMES)?;
     Ok(())
 }
+
+const GROWN: &str = "file_disk_grown";
+
+// How many bytes a file has.
+fn size(rt: HostRuntime, path: &str) -> u64 {
+    match fs::metadata(&rt, path) {
+        Ok(found) => found.len(),
+        Err(_) => 0,
+    }
+}
+
+// Whether the header and the beginning of a row are written and stable, and are all that counts.
+fn has_begun_row(disk: &mut FileDisk<HostRuntime>) -> bool {
+    let mut behind = [7; 2];
+    let mut begun = [1; 96];
+    begun[95] = 0;
+    disk.write_at(0, b"AQHBOOK2") == Ok(())
+        && disk.write_at(8, &[0; 89]) == Ok(())
+        && disk.write_at(97, &begun) == Ok(())
+        && disk.sync() == Ok(())
+        && disk.len() == Ok(193)
+        && disk.read_at(192, &mut behind) == Ok(1)
+}
+
+#[test]
+fn a_row_gets_room_which_goes_with_the_file(rt: HostRuntime) -> Result<(), Fail> {
+    let _ = fs::remove_file(&rt, GROWN);
+    let mut first = FileDisk::open(rt, GROWN);
+    assert!(rt; has_begun_row(&mut first) && size(rt, GROWN) == 65_536);
+    let zeros = fs::read(&rt, GROWN)?;
+    drop(first);
+    assert!(rt; size(rt, GROWN) == 193);
+    fs::write(&rt, GROWN, &zeros)?;
+    let mut second = FileDisk::open_to_read(rt, GROWN);
+    assert!(rt; second.len() == Ok(193) && size(rt, GROWN) == 65_536);
+    drop(second);
+    let mut third = FileDisk::open(rt, GROWN);
+    assert!(rt; third.len() == Ok(193) && size(rt, GROWN) == 193);
+    drop(third);
+    fs::remove_file(&rt, GROWN)?;
+    Ok(())
+}

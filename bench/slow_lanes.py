@@ -1,4 +1,6 @@
-"""The figures of bench/slow.sh: FOLDER WEIGHTS PROGRAM.."""
+"""Rows a second of `hall serve` over a slow disk, with 1, 4 and 16 lanes from files, which have so
+many weights together, by each of some programs in turn: FOLDER WEIGHTS PROGRAM.. See bench/slow.sh.
+"""
 
 import os
 import random
@@ -9,7 +11,6 @@ import time
 from clients import OPENING, Hall, free_ports, good_gross, need, plan, spell_grams
 
 work, weights, *programs = sys.argv[1:]
-SLOW_US = "5000"
 
 
 def rate(program: str, lanes: int) -> float:
@@ -40,7 +41,6 @@ def rate(program: str, lanes: int) -> float:
     return rows / seconds
 
 
-os.environ |= {"LD_PRELOAD": f"{work}/slow_sync.so", "SLOW_US": SLOW_US}
 for count in (1, 4, 16):
     for path in programs:
         print(f"{path}, lanes {count}: {rate(path, count):.1f} rows a second")
