@@ -1,5 +1,5 @@
 -- What one shipment more makes of what those before it left.
-use Rattle.std.proofs.Common.{◌≡◌, ◌≢◌, ◌⊎◌, inl, inr, ⊎_elim, ℕ, zero, suc, ◌+◌, ◌<◌, List, [], ◌++◌, length, Result, Ok, Err, refl, sym, ap, ◌∙◌, subst, arith}
+use Rattle.std.proofs.Common.{◌≡◌, ◌≢◌, ◌⊎◌, inl, inr, ⊎_elim, ℕ, zero, suc, ◌+◌, ◌-◌, ◌<◌, ◌≤◌, List, [], ◌++◌, length, Result, Ok, Err, refl, sym, ap, ◌∙◌, subst, arith}
 use Rattle.std.specs.Prelude.{IfOk}
 use Rattle.std.specs.Io.KnownBytes.{Consumes}
 use Rattle.std.proofs.KnownBytes.{Consumes-nil, Consumes-trans}
@@ -40,10 +40,10 @@ counts_from start middle now adopted (Err NoMemory) calm same = same ∙ calm
 module _ (start middle : Stream) (held between : List Entry) (earlier : ℕ)
     (several : HasReadSeveral start middle held between earlier) where
   -- one more came whole
-  pub several_more : (now : Stream) (rows : List Entry) (head : ShipHead) (adopted : ℕ)
-      → HasReadAll middle now between rows head → length rows ≡ length between + adopted
+  pub several_more : (now : Stream) (rows : List Entry) (head : ShipHead)
+      → HasReadAll middle now between rows head → length between ≤ length rows
       → HasReadSeveral start now held rows (earlier + 1)
-  several_more now rows head adopted all added =
+  several_more now rows head all grown =
       let last = shipped head all.entries in
       let next : suc earlier ≡ earlier + 1 = omega arith in
       subst (HasReadSeveral start now held rows) next (record {
@@ -56,7 +56,7 @@ module _ (start middle : Stream) (held between : List Entry) (earlier : ℕ)
           last,
           several.whole,
           record {
-            adopted = adopted;
+            adopted = length rows - length between;
             follows = record {
               head = head;
               entries = all.entries;
@@ -64,7 +64,7 @@ module _ (start middle : Stream) (held between : List Entry) (earlier : ℕ)
               bytes = refl;
               all = all.counted;
               ended = refl;
-              added = added;
+              added = omega (arith, grown);
             };
           },
           refl,
@@ -140,12 +140,15 @@ module _ (start middle : Stream) (held between : List Entry) (earlier : ℕ)
 
   -- it came whole, and the input ended behind it
   pub several_good : (most : ℕ) (now next : Stream) (rows : List Entry) (head : ShipHead)
-      (room adopted count : ℕ) → earlier < most → HasReadAll middle now between rows head
-      → TakesUpTo now next room [] → 0 < room → length rows ≡ length between + adopted
+      (room count : ℕ) → earlier < most → HasReadAll middle now between rows head
+      → TakesUpTo now next room [] → 0 < room → length between ≤ length rows
       → length rows ≡ length held + count → ExplainsSeveral most held start next rows (Ok count)
-  several_good most now next rows head room adopted count few whole takes some added counted =
-      several_end most next rows adopted (Ok count) few
-      (at_end_of middle now next between rows head whole adopted room [] added takes some refl)
+  several_good most now next rows head room count few whole takes some grown counted =
+      let added : length rows ≡ length between + (length rows - length between) =
+      omega (arith, grown) in
+      several_end most next rows (length rows - length between) (Ok count) few
+      (at_end_of middle now next between rows head whole (length rows - length between) room []
+      added takes some refl)
       (λ is. absurd cc)
       (λ all is. absurd cc)
       counted
