@@ -55,13 +55,13 @@ impl<R: Read + Drop> KeptInput<R> {
     pub(crate) fn shipment_reason(&self, number: u64) -> ShipmentReason {
         self.shipments.reason(number)
     }
+}
 
-    // Keeps what was read.
-    fn keep(&mut self, bytes: &[u8]) {
-        match self.kind() {
-            Kind::Shipments => self.shipments.keep(bytes),
-            _ => self.lines.keep(bytes),
-        }
+// Keeps bytes that were read.
+fn keep(lines: &mut Lines, shipments: &mut Shipments, bytes: &[u8]) {
+    match lines.kind() {
+        Kind::Shipments => shipments.keep(bytes),
+        _ => lines.keep(bytes),
     }
 }
 
@@ -70,7 +70,8 @@ impl<R: Read + Drop> Read for KeptInput<R> {
 
     fn read(&mut self, buf: &mut [u8]) -> io::Result<usize> {
         let count = self.input.read(buf)?;
-        self.keep(buf.get(..count).unwrap_or(&[]));
+        let bytes = buf.get(..count).unwrap_or(&[]);
+        keep(&mut self.lines, &mut self.shipments, bytes);
         Ok(count)
     }
 }

@@ -95,6 +95,12 @@ head_lacks held before now None is takes = record {
   follows = (cut_lacks [] (omega arith), refl);
 }
 
+-- where none was found, nothing came
+pub nothing_found : (before now : Stream) (found : Option ShipHead) → found ≡ None
+    → FindsHead before now found → TakesUpTo before now HEAD_BYTES []
+nothing_found before now (Some head) is finds = absurd cc
+nothing_found before now None is takes = takes
+
 pub head_stops : (held : List Entry) (before now : Stream) (stop : FollowStop)
     → StopsInHead before now stop → ExplainsFollow held before now held (Err stop)
 head_stops held before now ReadFault fails = head_fails held before now fails

@@ -172,10 +172,10 @@ pub fn follow_shipments<S: Source, D: Disk>(
     let mut head = first_head(input)?;
     for _earlier in 0..most - 1 {
         follow_head(store, input, &head)?;
-        let Some(next) = next_head(input)? else {
-            return Ok(store.len() - held);
-        };
-        head = next;
+        match next_head(input)? {
+            Some(next) => head = next,
+            None => return Ok(store.len() - held),
+        }
     }
     follow_head(store, input, &head)?;
     see_end(input, &head)?;
