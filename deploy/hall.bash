@@ -14,13 +14,14 @@ _hall() {
         --book) mapfile -t COMPREPLY < <(compgen -f -- "$word"); return ;;
         --cells) mapfile -t COMPREPLY < <(compgen -d -- "$word"); return ;;
         --limit | --lanes | --remote | --doors | --port | --connections) return ;;
-        --batch | --after | --rows) return ;;
+        --batch | --after | --rows | --shipments) return ;;
     esac
     case ${COMP_WORDS[1]} in
         run) options="--book --limit --lanes --cells --remote" ;;
         serve) options="--book --limit --lanes --cells --remote --doors --port --connections" ;;
         report | paper) options="--book --batch" ;;
-        export | check | migrate | follow) options="--book" ;;
+        export | check | migrate) options="--book" ;;
+        follow) options="--book --shipments" ;;
         audit) options="--book --rows" ;;
         ship | acts) options="--book --after" ;;
         import | list) options="--book --limit" ;;

@@ -230,11 +230,19 @@ def copies(hall):
     for shipment in (shipments[3], shipments[3], shipments[0]):
         hall.do(Step(["follow"], shipment, "rows 5 whole\n", 0, 5))
     compare("the copy", hall.bytes(), five)
+    again = shipments[3] + shipments[0]
+    hall.do(Step(["follow", "--shipments", "2"], again, "rows 5 whole\n", 0, 5))
+    hall.do(Step(["follow"], again, "bad line 6\n", 3, 5))
+    hall.do(Step(["follow", "--shipments=2"], again[:-1], "bad line 5\n", 3, 5))
+    compare("the copy, again", hall.bytes(), five)
     hall.do(SIXTH_ROW)
     hall.do(Step(["follow"], shipments[0], "rows 6 whole\n", 0, 6))
     hall.anew()
     hall.do(NEXT_DAY)
     hall.do(Step(["follow"], shipments[0], "bad line 1\n", 3, 1))
+    hall.anew()
+    hall.do(Step(["follow", "--shipments=3"], shipments[0] + shipments[3], "rows 5 whole\n", 0, 5))
+    compare("a copy of shipments that came at once", hall.bytes(), five)
 
 
 def papers(hall):

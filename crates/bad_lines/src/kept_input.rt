@@ -1,4 +1,5 @@
 use crate::lines::Lines;
+use crate::shipments::{ShipmentReason, Shipments};
 use crate::types::Kind;
 use std::alloc::Global;
 use std::io;
@@ -6,11 +7,12 @@ use std::io::Read;
 use std::marker::Model;
 
 /// An input that keeps what was read last: of a script the newest piece and the line that it goes on,
-/// of a table or a plan everything. It gives what the input gives.
+/// of a table or a plan everything; of shipments where they stand. It gives what the input gives.
 #[derive(Drop)]
 pub struct KeptInput<R: Read + Drop> {
     input: R,
     lines: Lines,
+    shipments: Shipments,
 }
 
 impl<R: Read + Drop> Model for KeptInput<R> {
@@ -29,6 +31,7 @@ impl<R: Read + Drop> KeptInput<R> {
         KeptInput {
             input,
             lines: Lines::new(alloc, kind),
+            shipments: Shipments::new(),
         }
     }
 
@@ -47,6 +50,19 @@ impl<R: Read + Drop> KeptInput<R> {
     pub fn line(&self, number: u64) -> Option<&[u8]> {
         self.lines.line(number)
     }
+
+    /// Why shipments are bad at the line of this number.
+    pub(crate) fn shipment_reason(&self, number: u64) -> ShipmentReason {
+        self.shipments.reason(number)
+    }
+}
+
+// Keeps bytes that were read.
+fn keep(lines: &mut Lines, shipments: &mut Shipments, bytes: &[u8]) {
+    match lines.kind() {
+        Kind::Shipments => shipments.keep(bytes),
+        _ => lines.keep(bytes),
+    }
 }
 
 impl<R: Read + Drop> Read for KeptInput<R> {
@@ -54,7 +70,8 @@ impl<R: Read + Drop> Read for KeptInput<R> {
 
     fn read(&mut self, buf: &mut [u8]) -> io::Result<usize> {
         let count = self.input.read(buf)?;
-        self.lines.keep(buf.get(..count).unwrap_or(&[]));
+        let bytes = buf.get(..count).unwrap_or(&[]);
+        keep(&mut self.lines, &mut self.shipments, bytes);
         Ok(count)
     }
 }

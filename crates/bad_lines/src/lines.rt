@@ -36,9 +36,14 @@ impl Lines {
         if self.kind == Kind::Script && !bytes.is_empty() {
             self.let_go();
         }
-        if self.kind != Kind::Other && self.kept.extend_from_slice(bytes).is_err() {
+        if self.has_lines() && self.kept.extend_from_slice(bytes).is_err() {
             self.kind = Kind::Other;
         }
+    }
+
+    // Whether lines are kept of it.
+    fn has_lines(&self) -> bool {
+        !matches!(self.kind, Kind::Shipments | Kind::Other)
     }
 
     // Lets the lines go that have ended.
@@ -54,7 +59,7 @@ impl Lines {
 
     /// A line, by its number from 1.
     pub fn line(&self, number: u64) -> Option<&[u8]> {
-        if self.kind == Kind::Other {
+        if !self.has_lines() {
             return None;
         }
         let before = number.checked_sub(1)?.checked_sub(self.ended)?;

@@ -25,6 +25,12 @@ pub fn explain<E: Eprint, R: Read + Drop, W: Write + Drop>(
         (Some(Fault::Line(number)), Kind::Paper) => {
             explain_paper(errors, input.bytes(), number, input.line(number));
         }
+        (Some(Fault::Line(number)), Kind::Shipments) => {
+            let _ = eprintln!(errors;
+                "hall: bad line {number}: {}",
+                input.shipment_reason(number)
+            );
+        }
         (Some(Fault::Line(number)), kind) => {
             if let Some(line) = input.line(number) {
                 say(errors, kind, number, line);

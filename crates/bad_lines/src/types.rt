@@ -11,6 +11,8 @@ pub enum Kind {
     Plan,
     /// A paper, which is read whole.
     Paper,
+    /// Shipments: where they stand is known, and none of their bytes is kept.
+    Shipments,
     /// Something else: none of it is kept.
     Other,
 }

@@ -53,6 +53,8 @@ const OF_SERVE: &[(&str, Value)] = &[
 
 const OF_AUDIT: &[(&str, Value)] = &[BOOK, ("rows", Value::Number(0, 1_000_000))];
 
+const OF_FOLLOW: &[(&str, Value)] = &[BOOK, ("shipments", Value::Number(1, 1_000_000))];
+
 const OF_ROWS_AFTER: &[(&str, Value)] = &[BOOK, ("after", Value::Number(0, 1_000_000))];
 
 // The commands, and what stands behind each.
@@ -69,7 +71,7 @@ const USAGES: [(&str, &[(&str, Value)]); 15] = [
     ("paper", &[BOOK, BATCH]),
     ("prove", &[]),
     ("ship", OF_ROWS_AFTER),
-    ("follow", &[BOOK]),
+    ("follow", OF_FOLLOW),
     ("migrate", &[BOOK]),
     ("trial", &[]),
 ];

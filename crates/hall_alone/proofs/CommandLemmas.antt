@@ -21,13 +21,14 @@ use Rattle.prove_run.specs.declared.types.ProveEnd.{ProveEnd}
 use Rattle.prove_run.specs.declared.types.ProveEnd.TheVariants as proving
 use Rattle.standby_hall.specs.declared.types.FollowStop.{FollowStop}
 use Rattle.standby_hall.specs.declared.types.FollowStop.TheVariants as why_is
-use Rattle.standby_hall.specs.Following.{EndsBehind, ExplainsFollowRun, shipment_stop}
+use Rattle.standby_hall.specs.Following.{EndsBehind, shipment_stop}
+use Rattle.standby_hall.specs.Several.{ExplainsFollowRun}
 use Rattle.hall_alone.specs.declared.ended.Outcome.{Outcome}
 use Rattle.call_endings.specs.declared.ending.Ending.TheVariants.{Usage, Unopened, Stopped}
 use Rattle.book_migration.specs.Migration.{ExplainsMigration}
 use Rattle.act_lines.specs.ActViews.{acts_text}
 use Rattle.act_replay.specs.Replay.{CanBeReplayed}
-use Rattle.hall_alone.specs.Calls.{ExplainsAs, ExplainsActs, ExplainsCommand, SaysAll, SaysWhole, input_of, CarriesJournal, FollowsShipment, EndsCarrying, LanesRest, ExplainsSaying, ExplainsPrinting, ExplainsExport, IsImport, IsTrial, stream_call, SaysBehind, ExplainsCarrying, ExplainsMigrate, ExplainsFollow, ExplainsPaper, ProvesInput, ExplainsProve, prove_stop, EndsAs, ending_of}
+use Rattle.hall_alone.specs.Calls.{ExplainsAs, ExplainsActs, ExplainsCommand, SaysAll, SaysWhole, input_of, CarriesJournal, FollowsShipments, EndsCarrying, LanesRest, ExplainsSaying, ExplainsPrinting, ExplainsExport, IsImport, IsTrial, stream_call, SaysBehind, ExplainsCarrying, ExplainsMigrate, ExplainsFollow, ExplainsPaper, ProvesInput, ExplainsProve, prove_stop, EndsAs, ending_of}
 use Rattle.book_audit.specs.declared.types.AuditEnd.{AuditEnd}
 use Rattle.book_audit.specs.declared.types.AuditEnd.TheVariants as audits
 
@@ -238,10 +239,10 @@ ends_migration book call rows was stop same rest explained ends =
     (subst (λ (es : List Entry). ExplainsMigration book.entries (input_of call.before)
     (input_of call.now) es was) (sym same) explained) ends
 
--- a shipment that was followed, and then its line
-follows_unwritten : (held : List Entry) (before now : Stream) (rows : List Entry)
-    → ExplainsFollowRun held before now rows WriteFault → ⊥
-follows_unwritten held before now rows (result, ends, explained) = by_result result ends
+-- shipments that were followed, and then their line
+follows_unwritten : (most : ℕ) (held : List Entry) (before now : Stream) (rows : List Entry)
+    → ExplainsFollowRun most held before now rows WriteFault → ⊥
+follows_unwritten most held before now rows (result, ends, explained) = by_result result ends
   where
     by_stop : (why : FollowStop) → WriteFault ≡ shipment_stop why → ⊥
     by_stop why_is.ReadFault same = absurd (cc)
@@ -257,16 +258,16 @@ follows_unwritten held before now rows (result, ends, explained) = by_result res
     by_result (Ok adopted) (inr fails) = fails
     by_result (Err why) same = by_stop why same
 
-pub ends_following : {S : Type 0} (book : BookState) (call : Call S) (rows : List Entry)
+pub ends_following : {S : Type 0} (most : ℕ) (book : BookState) (call : Call S) (rows : List Entry)
     (was stop : Stop) → call.rows ≡ rows → LanesRest call.before.outside call.now.outside
-    → ExplainsFollowRun book.entries call.before.input call.now.input rows was
+    → ExplainsFollowRun most book.entries call.before.input call.now.input rows was
     → EndsCarrying call.before.outside.output call.now.outside.output (length rows) was stop
-    → ExplainsFollow book call stop
-ends_following book call rows was stop same rest explained ends =
-    ends_carrying call (FollowsShipment book call)
-    (follows_unwritten book.entries call.before.input call.now.input call.rows) rows was stop same
-    rest (subst (λ (es : List Entry). ExplainsFollowRun book.entries call.before.input
-    call.now.input es was) (sym same) explained) ends
+    → ExplainsFollow most book call stop
+ends_following most book call rows was stop same rest explained ends =
+    ends_carrying call (FollowsShipments most book call)
+    (follows_unwritten most book.entries call.before.input call.now.input call.rows) rows was stop same
+    rest (subst (λ (es : List Entry). ExplainsFollowRun most book.entries
+    call.before.input call.now.input es was) (sym same) explained) ends
 
 -- it touches no disk, and the store is as it was
 pub said_counts : (T : Type 0) (before now : Stream) (text : List ℕ) (count : ℕ) (stop : Stop)

@@ -32,7 +32,7 @@ pub use Rattle.script_run.specs.Outside.{call_between}
 use Rattle.script_run.specs.Runs.{ExplainsRun}
 use Rattle.book_migration.specs.Migration.{InputMoment, ExplainsMigration}
 use Rattle.standby_hall.specs.Shipments.{shipment}
-use Rattle.standby_hall.specs.Following.{ExplainsFollowRun}
+use Rattle.standby_hall.specs.Several.{ExplainsFollowRun}
 use Rattle.store_runs.specs.Calls.{Call as StreamCall}
 use Rattle.paper_run.specs.Printing.{SaysPaper}
 use Rattle.prove_run.specs.declared.types.ProveEnd.{ProveEnd}
@@ -217,10 +217,10 @@ abbrev pub CarriesJournal : {S : Type 0} → BookState → Call S → Stop → T
 CarriesJournal book call stop =
     ExplainsMigration book.entries (input_of call.before) (input_of call.now) call.rows stop
 
--- the book followed a shipment, or that stopped so
-abbrev pub FollowsShipment : {S : Type 0} → BookState → Call S → Stop → Type 0
-FollowsShipment book call stop =
-    ExplainsFollowRun book.entries call.before.input call.now.input call.rows stop
+-- the book followed shipments, at most so many, or that stopped so
+abbrev pub FollowsShipments : {S : Type 0} → ℕ → BookState → Call S → Stop → Type 0
+FollowsShipments most book call stop =
+    ExplainsFollowRun most book.entries call.before.input call.now.input call.rows stop
 
 -- what carried rows into the book to its end then says how many rows the book has, or that line is
 -- cut; where it stopped, nothing is written
@@ -243,8 +243,8 @@ pub record ExplainsCarrying {S : Type 0} (Carries : Stop → Type 0) (call : Cal
 abbrev pub ExplainsMigrate : {S : Type 0} → BookState → Call S → Stop → Type 0
 ExplainsMigrate book call stop = ExplainsCarrying (CarriesJournal book call) call stop
 
-abbrev pub ExplainsFollow : {S : Type 0} → BookState → Call S → Stop → Type 0
-ExplainsFollow book call stop = ExplainsCarrying (FollowsShipment book call) call stop
+abbrev pub ExplainsFollow : {S : Type 0} → ℕ → BookState → Call S → Stop → Type 0
+ExplainsFollow most book call stop = ExplainsCarrying (FollowsShipments most book call) call stop
 
 -- what is said of a batch whose paper is asked for: the input wasn't read, no lane was worked, and
 -- the rows are those that the disk held
@@ -293,7 +293,7 @@ ExplainsAs Import wanted book call stop = IsImport book call stop
 ExplainsAs Trial wanted book call stop = IsTrial wanted.number wanted.count book call stop
 ExplainsAs Migrate wanted book call stop = ExplainsMigrate book call stop
 ExplainsAs Ship wanted book call stop = ExplainsShip wanted.after book call stop
-ExplainsAs Follow wanted book call stop = ExplainsFollow book call stop
+ExplainsAs Follow wanted book call stop = ExplainsFollow wanted.shipments book call stop
 ExplainsAs Paper wanted book call stop = ExplainsPaper wanted.batch book call stop
 ExplainsAs Prove wanted book call stop = ExplainsProve book call stop
 ExplainsAs verb.List wanted book call stop = ExplainsList wanted.limit book call stop

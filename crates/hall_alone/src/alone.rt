@@ -89,7 +89,7 @@ fn run_command<S: Source, K: Sink, D: Disk, L: Lane>(
         }
         Command::Ship => without_lanes(alloc, ship(store, wanted.after, output)),
         Command::Follow => {
-            let end = end_carrying(follow_run(store, input), output);
+            let end = end_carrying(follow_run(store, input, wanted.shipments), output);
             without_lanes(alloc, end)
         }
         Command::Paper => {

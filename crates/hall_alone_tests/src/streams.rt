@@ -27,12 +27,14 @@ const SHIP: &[&str] = &["ship"];
 
 const FOLLOW: &[&str] = &["follow"];
 
+const FOLLOW_TWO: &[&str] = &["follow", "--shipments=2"];
+
 const PROVE: &[&str] = &["prove"];
 
 const PAPER_OF_A: &[&str] = &["paper", "--book=b", "--batch=A"];
 
 // Over an empty disk. The first read gives the whole input, and the next one its end.
-const OF_NOTHING: [Run; 40] = [
+const OF_NOTHING: [Run; 41] = [
     // nothing fails
     (RUN, TWO, (3, 4, 0), TWO_ANSWERED, 0, 2),
     (&["check"], b"", (0, 0, 0), "rows 0 whole\n", 0, 0),
@@ -42,6 +44,7 @@ const OF_NOTHING: [Run; 40] = [
     (SHIP, b"", (1, 0, 0), "AQHSHIP2\0\0\0\0\0\0\0\0", 0, 0),
     (SHIP, b"", (0, 1, 0), "", 5, 0),
     (FOLLOW, ONE_SHIPPED, (0, 0, 0), "rows 1 whole\n", 0, 1),
+    (FOLLOW_TWO, ONE_SHIPPED, (0, 0, 0), "rows 1 whole\n", 0, 1),
     (FOLLOW, b"", (0, 0, 0), "bad line 0\n", 3, 0),
     // its head, its row and its end are read
     (FOLLOW, ONE_SHIPPED, (1, 0, 0), "read fault\n", 4, 0),

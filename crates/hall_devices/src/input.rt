@@ -8,6 +8,7 @@ pub fn input_kind(command: Command) -> Kind {
         Command::Import => Kind::Table,
         Command::Serve => Kind::Plan,
         Command::Prove => Kind::Paper,
+        Command::Follow => Kind::Shipments,
         _ => Kind::Other,
     }
 }

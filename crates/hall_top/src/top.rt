@@ -58,7 +58,9 @@ use std::thread::Threads;
 /// `ship` reads nothing and writes the shipment of the book behind the first rows, as many as
 /// `--after` says; the rows stay as they are. `follow` reads a shipment and does with its rows as
 /// `migrate` does; the row is bad, too, which the book lacks before the first that was shipped, and
-/// the one behind the last where anything follows it.
+/// the one behind the last where anything follows it. It reads as many as `--shipments` says, one
+/// right after another, or fewer where the input ends behind one; what is bad is so in the last one
+/// read.
 ///
 /// `list` reads nothing and prints what is in force: the newest day, products with their tares,
 /// batches, lanes and desks. `audit` reads nothing, opens no book and writes nothing to the disk: it

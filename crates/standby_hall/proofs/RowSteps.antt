@@ -23,7 +23,7 @@ use Rattle.standby_hall.specs.declared.types.FollowStop.{FollowStop}
 use Rattle.standby_hall.specs.declared.types.FollowStop.TheVariants.{ReadFault, Head, Gap, Row, Extra, DiskFault, NoMemory}
 use Rattle.standby_hall.specs.Shipments.{head_bytes, IsHead, rows_from, shipped}
 use Rattle.standby_hall.specs.Following.{Arrival, HasFollowed, FailsInRows, StopsAtRow, ComesToNew, Follows, CountsRead, ExplainsFollow, shipment_stop, step_behind}
-use Rattle.standby_hall.specs.Rows.{entry_stop, IsNewSlot, StopsSlot, FollowsRow, FailsWithin, StopsAtBad, StopsAtNew, StopsInRow, HasReadRows}
+use Rattle.standby_hall.specs.Rows.{entry_stop, IsNewSlot, StopsSlot, FollowsRow, FailsWithin, StopsAtBad, StopsAtNew, StopsInRow, HasReadRows, IsBehindHead, IsBeforeEnd}
 use Rattle.standby_hall.proofs.RowBytes.{rows_more}
 
 -- ---- an entry that wasn't carried
@@ -284,3 +284,14 @@ module _ (start now next : Stream) (held rows : List Entry) (head : ShipHead) (b
   row_stops Head never = absurd never
   row_stops (Gap row) never = absurd never
   row_stops (Extra all) never = absurd never
+
+-- where following stops in a row, that is behind the head, and before the end of the last row
+pub row_behind : (before now : Stream) (rows : List Entry) (number : ℕ) (stop : FollowStop)
+    → StopsInRow before now rows number stop → IsBehindHead stop × IsBeforeEnd stop
+row_behind before now rows number ReadFault stops = (tt, tt)
+row_behind before now rows number (Row row) stops = (tt, tt)
+row_behind before now rows number (DiskFault entry) stops = (tt, tt)
+row_behind before now rows number NoMemory stops = (tt, tt)
+row_behind before now rows number Head never = absurd never
+row_behind before now rows number (Gap row) never = absurd never
+row_behind before now rows number (Extra all) never = absurd never

@@ -164,13 +164,6 @@ abbrev pub answer_of : Result ℕ FollowStop → Result ℕ FollowError
 answer_of (Ok adopted) = Ok adopted
 answer_of (Err stop) = Err (error_of stop)
 
--- the same for a caller who knows only the answer
-abbrev pub ExplainsAnswer : List Entry → Stream → Stream → List Entry → Result ℕ FollowError
-    → Type 0
-ExplainsAnswer held before now rows answer =
-    (result : Result ℕ FollowStop) × (answer ≡ answer_of result)
-    × ExplainsFollow held before now rows result
-
 -- how a run stops so: at line 0 where it isn't a shipment, at the row that is bad or lacking, or at
 -- the one that would come behind the last
 abbrev pub shipment_stop : FollowStop → Stop
@@ -187,12 +180,7 @@ abbrev pub step_behind : {T : Type 0} → Result T FollowStop → Result T Stop
 step_behind (Ok done) = Ok done
 step_behind (Err stop) = Err (shipment_stop stop)
 
--- how a run ends that follows a shipment: where rows were added, a snapshot is kept, or that fails
+-- how a run ends that followed so: where rows were added, a snapshot is kept, or that fails
 abbrev pub EndsBehind : ℕ → List Entry → Result ℕ FollowStop → Stop → Type 0
 EndsBehind held rows (Ok adopted) stop = (stop ≡ run.Finished) ⊎ FailsToKeep held rows stop
 EndsBehind held rows (Err why) stop = stop ≡ shipment_stop why
-
-abbrev pub ExplainsFollowRun : List Entry → Stream → Stream → List Entry → Stop → Type 0
-ExplainsFollowRun held before now rows stop =
-    (result : Result ℕ FollowStop) × EndsBehind (length held) rows result stop
-    × ExplainsFollow held before now rows result

@@ -1,5 +1,5 @@
 -- What each row of a shipment makes of a book, and where a reader of one then stands.
-use Rattle.std.specs.Prelude.{◌≡◌, ◌⊎◌, ℕ, ◌+◌, ◌<◌, List, length, None}
+use Rattle.std.specs.Prelude.{◌≡◌, ◌≢◌, ◌⊎◌, ⊤, ℕ, ◌+◌, ◌<◌, true, List, [], length, Option, Some, None}
 use Rattle.std.specs.Io.KnownBytes.{Consumes, IsAtEnd}
 use Rattle.book_words.specs.declared.act.Entry.{Entry}
 use Rattle.book_words.specs.Answers.{IsLawful}
@@ -14,8 +14,9 @@ use Rattle.store_runs.specs.Carrying.{Carries, Refuses}
 use Rattle.standby_hall.specs.declared.types.ShipHead.{ShipHead}
 use Rattle.standby_hall.specs.declared.types.FollowStop.{FollowStop}
 use Rattle.standby_hall.specs.declared.types.FollowStop.TheVariants.{ReadFault, Head, Gap, Row, Extra, DiskFault, NoMemory}
-use Rattle.standby_hall.specs.Shipments.{head_bytes, shipped}
-use Rattle.standby_hall.specs.Following.{HasFollowed}
+use Rattle.standby_hall.specs.declared.head.TheConstants.{HEAD_BYTES}
+use Rattle.standby_hall.specs.Shipments.{head_bytes, IsHead, shipped}
+use Rattle.standby_hall.specs.Following.{Arrival, HasFollowed, LacksHead}
 
 -- so many bytes came, or fewer and then the end
 pub record TakesUpTo (before now : Stream) (room : ℕ) (taken : List ℕ) : Type 0 where
@@ -107,6 +108,36 @@ StopsInRow before now rows number stop = ⊥
 pub record HasReadHead (start now : Stream) (head : ShipHead) : Type 0 where
   pub read : Consumes start.bytes now.bytes (head_bytes head)
   pub calm : IsCalm start now
+
+-- a good head was read, or the input ended before a byte of one came
+abbrev pub FindsHead : Stream → Stream → Option ShipHead → Type 0
+FindsHead start now (Some head) = HasReadHead start now head × IsHead head
+FindsHead start now None = TakesUpTo start now HEAD_BYTES []
+
+-- what came is no head, and isn't nothing
+pub record ComesToNoHead (start now : Stream) : Type 0 where
+  pub arrival : Arrival
+  pub some : arrival.bytes ≢ []
+  pub read : Consumes start.bytes now.bytes arrival.bytes
+  pub at_end : arrival.ended ≡ true → IsAtEnd now.bytes
+  pub calm : IsCalm start now
+  pub lacks : LacksHead arrival
+
+-- how following stops at a head
+abbrev pub StopsInHead : Stream → Stream → FollowStop → Type 0
+StopsInHead start now ReadFault = FailsWithin start now HEAD_BYTES
+StopsInHead start now Head = ComesToNoHead start now
+StopsInHead start now stop = ⊥
+
+-- it stops behind the head
+abbrev pub IsBehindHead : FollowStop → Type 0
+IsBehindHead Head = ⊥
+IsBehindHead stop = ⊤
+
+-- it stops before the end of the last row
+abbrev pub IsBeforeEnd : FollowStop → Type 0
+IsBeforeEnd (Extra all) = ⊥
+IsBeforeEnd stop = ⊤
 
 -- behind it the rows of some entries, up to this number, which came to a book that held those
 pub record HasReadRows (start now : Stream) (held rows : List Entry) (head : ShipHead)

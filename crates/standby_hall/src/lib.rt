@@ -11,7 +11,7 @@ mod rows;
 mod shipping;
 mod types;
 
-pub use following::{follow, follow_run, follow_shipment};
+pub use following::{follow, follow_run, follow_shipments};
 pub use head::HEAD_BYTES;
 pub use law::shipments_law;
 pub use shipping::{ship, ship_entries};

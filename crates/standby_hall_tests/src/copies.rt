@@ -5,7 +5,7 @@ use book_store::Store;
 use book_words::Entry;
 use disk_core::{Disk, MemoryDisk, MemorySink, MemorySource, Partly};
 use memory_hall::{copy, disk_of};
-use standby_hall::{FollowError, follow, ship_entries};
+use standby_hall::{FollowError, follow, follow_shipments, ship_entries};
 use std::alloc::Global;
 
 /// A copy of a book. It is closed, and never let go.
@@ -42,6 +42,18 @@ impl<D: Disk> BookCopy<D> {
     ) -> Result<u32, FollowError> {
         let mut input = MemorySource::new(copy(alloc, bytes), copy(alloc, fails));
         follow(&mut self.store, &mut input)
+    }
+
+    /// Follows these bytes, which are at most so many shipments; of the reads these fail.
+    pub(crate) fn follow_several(
+        &mut self,
+        alloc: Global,
+        bytes: &[u8],
+        most: u32,
+        fails: &[u32],
+    ) -> Result<u32, FollowError> {
+        let mut input = MemorySource::new(copy(alloc, bytes), copy(alloc, fails));
+        Ok(follow_shipments(&mut self.store, &mut input, most.max(1))?)
     }
 
     /// Its shipment, to a sink of which the writes with these numbers fail.

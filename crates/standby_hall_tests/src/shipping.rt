@@ -6,8 +6,8 @@ use memory_hall::copy;
 use std::alloc::Global;
 use std::test::Fail;
 
-// The shipment of some entries, and how many bytes of it went out where the sink failed.
-fn shipped(
+/// The shipment of some entries, and how many bytes of it went out where the sink failed.
+pub(crate) fn shipped(
     alloc: Global,
     entries: &[Entry],
     after: u32,

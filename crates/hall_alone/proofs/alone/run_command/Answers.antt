@@ -224,6 +224,9 @@ returns-in-Ship-clause-goes g c =
     (said_counts ⊤ _ _ _ _ c.ship.result.stop c.ship.ensures.says)
     (λ finished grown calm. absurd (omega (arith, grown, c.requires.opened)))))
 
+pub follow_run-requires-clause-some : goal.follow_run-requires-clause-some
+follow_run-requires-clause-some g c = c.requires.range.shipments_least
+
 pub returns-in-Follow-clause-explained : goal.returns-in-Follow-clause-explained
 returns-in-Follow-clause-explained g c =
     let here = outside_at g.K.Sink g.L.Cell g.L.Gate c.args.output.now c.args.lanes.now
@@ -236,7 +239,7 @@ returns-in-Follow-clause-explained g c =
     let same = ap (λ (s : Store _). entries_of s)
     (c.without_lanes-in-Follow.ensures.store ∙ c.end_carrying-end-in-Follow.ensures.store) in
     explains_as (seen c.args.wanted.now) Follow (stored_book c.args.store) call end.stop
-    c.in-Follow.is (ends_following (stored_book c.args.store) call
+    c.in-Follow.is (ends_following c.args.wanted.now.shipments (stored_book c.args.store) call
     (entries_of c.follow_run.result.store) c.follow_run.result.stop end.stop same
     (lanes_rest here (output_at g.K.Sink c.end_carrying-end-in-Follow.new.output) end.log.told
     c.without_lanes-in-Follow.ensures.log)

@@ -8,8 +8,8 @@ pub returns-in-Ok-eq0-clause-explained : goal.returns-in-Ok-eq0-clause-explained
 returns-in-Ok-eq0-clause-explained g c = λ start held rows adopted all added.
     let none : c.in-Ok-eq0.field-0 ≡ 0 = search rules in
     at_end_of start (input_at g.S.Source c.args.input.now) (input_at g.S.Source c.fill.new.input) held
-    rows c.args.head.now all adopted (take c.in-Ok-eq0.field-0 c.fill.new.into) added
-    c.in-Ok-eq0.ensures.taken
+    rows c.args.head.now all adopted 1 (take c.in-Ok-eq0.field-0 c.fill.new.into) added
+    c.in-Ok-eq0.ensures.taken (omega arith)
     (omega (arith, none, length-take c.in-Ok-eq0.field-0 c.fill.new.into))
 
 pub returns-in-Ok-clause-explained : goal.returns-in-Ok-clause-explained
