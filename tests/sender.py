@@ -376,7 +376,11 @@ class Hall:
                 self.send_response(200)
                 self.send_header("Content-Length", str(len(body)))
                 self.end_headers()
-                self.wfile.write(body)
+                try:
+                    self.wfile.write(body)
+                except OSError:
+                    # the sender waits no more on a machine that is so slow
+                    pass
 
             def log_message(self, format: str, *args: object) -> None:
                 pass
