@@ -23,7 +23,8 @@ At the hall's own port no weight is taken twice by halls that end in good order.
 lines alone can't tell one case: a hall took a weight, it ended, and its acknowledgement was lost or
 late on the way. The next hall takes the weight again, and standard error reports it. With --book
 this asks the book first whether lane L has the weight: at a door (http://127.0.0.1:8471), or at the
-front (https://NAME/hall), where FILE has `NAME:PASSWORD` of a person who may look.
+front (https://NAME/hall), where FILE has `NAME:PASSWORD` of a person who may look. While no hall is
+there to be asked, it waits.
 
 --first N is for who begins this anew while the hall stays: the number after the last one that was
 acknowledged.
@@ -230,6 +231,8 @@ class Book:
         # how many rows the book had, and how many weights were acknowledged since
         self.rows: int | None = None
         self.since = 0
+        # whether no hall was there, and whether it is reported that it couldn't be asked
+        self.is_gone = False
         self.is_reported = False
 
     def connect(self) -> http.client.HTTPConnection:
@@ -264,6 +267,7 @@ class Book:
             self.since = 0
             self.is_reported = False
         except (OSError, Unasked) as fault:
+            self.is_gone = isinstance(fault, OSError)
             self.report(fault)
         finally:
             link.close()
@@ -275,10 +279,10 @@ class Book:
         self.is_reported = True
 
     def begin(self) -> None:
-        """Notes it before the first weight; a book that can't be asked yet is waited for."""
+        """Notes it before the first weight. A hall is waited for; one that refuses, for a time."""
         until = time.monotonic() + ASK_WAIT
         self.mark()
-        while self.rows is None and time.monotonic() < until:
+        while self.rows is None and (self.is_gone or time.monotonic() < until):
             time.sleep(RETRY)
             self.mark()
 
