@@ -23,7 +23,8 @@ At the hall's own port no weight is taken twice by halls that end in good order.
 lines alone can't tell one case: a hall took a weight, it ended, and its acknowledgement was lost or
 late on the way. The next hall takes the weight again, and standard error reports it. With --book
 this asks the book first whether lane L has the weight: at a door (http://127.0.0.1:8471), or at the
-front (https://NAME/hall), where FILE has `NAME:PASSWORD` of a person who may look.
+front (https://NAME/hall), where FILE has `NAME:PASSWORD` of a person who may look. While no hall is
+there to be asked, it waits.
 
 --first N is for who begins this anew while the hall stays: the number after the last one that was
 acknowledged.
@@ -63,6 +64,8 @@ TIMES = 3
 MOST_LEFT = 16
 # Behind how many acknowledgements it is noted how many rows the book has.
 MARK_EVERY = 50
+# What the front answers where no hall is there.
+NO_HALL = (502, 503, 504)
 # How long the book is asked in vain before a weight is said without that, in seconds.
 ASK_WAIT = 30.0
 
@@ -73,6 +76,10 @@ class Gone(Exception):
 
 class Ahead(Exception):
     """The hall has taken more than was said."""
+
+
+class Unasked(Exception):
+    """The book can't be asked, though its hall may be there."""
 
 
 class Answer(enum.Enum):
@@ -224,6 +231,8 @@ class Book:
         # how many rows the book had, and how many weights were acknowledged since
         self.rows: int | None = None
         self.since = 0
+        # whether no hall was there, and whether it is reported that it couldn't be asked
+        self.is_gone = False
         self.is_reported = False
 
     def connect(self) -> http.client.HTTPConnection:
@@ -238,14 +247,16 @@ class Book:
             text = answer.read().decode()
         except http.client.HTTPException as fault:
             raise OSError(f"no answer: {fault!r}") from fault
-        if answer.status not in (200, 409):
+        if answer.status in NO_HALL:
             raise OSError(f"{path} is answered {answer.status}")
+        if answer.status not in (200, 409):
+            raise Unasked(f"{path} is answered {answer.status}")
         return text.split() if answer.status == 200 else None
 
     def count_rows(self, link: http.client.HTTPConnection) -> int:
         said = self.ask(link, "/summary")
         if said is None or said[0] != "rows":
-            raise OSError("the summary has no rows")
+            raise Unasked("the summary has no rows")
         return int(said[1])
 
     def mark(self) -> None:
@@ -255,18 +266,23 @@ class Book:
             self.rows = self.count_rows(link)
             self.since = 0
             self.is_reported = False
-        except OSError as fault:
-            if not self.is_reported:
-                report(f"the book can't be asked: {fault}")
-            self.is_reported = True
+        except (OSError, Unasked) as fault:
+            self.is_gone = isinstance(fault, OSError)
+            self.report(fault)
         finally:
             link.close()
 
+    def report(self, fault: Exception) -> None:
+        """Reports that it can't be asked, once until it can be."""
+        if not self.is_reported:
+            report(f"the book can't be asked: {fault}")
+        self.is_reported = True
+
     def begin(self) -> None:
-        """Notes it before the first weight; a book that can't be asked yet is waited for."""
+        """Notes it before the first weight. A hall is waited for; one that refuses, for a time."""
         until = time.monotonic() + ASK_WAIT
         self.mark()
-        while self.rows is None and time.monotonic() < until:
+        while self.rows is None and (self.is_gone or time.monotonic() < until):
             time.sleep(RETRY)
             self.mark()
 
@@ -279,7 +295,7 @@ class Book:
     def newest(self) -> Newest:
         """What the lane has beside the weights that were acknowledged."""
         if self.rows is None:
-            raise OSError("it wasn't asked before")
+            raise Unasked("it wasn't asked before")
         link = self.connect()
         try:
             packs = list(self.packs(link, self.rows, self.count_rows(link)))
@@ -479,14 +495,20 @@ class Sender:
         return number
 
     def is_in_book(self, what: bytes, began: float) -> bool:
-        """Whether the book has a weight that was said before and isn't acknowledged."""
+        """Whether the book has a weight that was said before and isn't acknowledged. Where no hall
+        is there to say so, one is waited for: an OSError."""
         if self.book is None or what == b"end":
             return False
+        is_late = ASK_WAIT < time.monotonic() - began
         try:
             newest = self.book.newest()
         except OSError as fault:
-            if time.monotonic() - began < ASK_WAIT:
-                raise
+            if is_late:
+                self.book.report(fault)
+            raise
+        except Unasked as fault:
+            if not is_late:
+                raise OSError from fault
             report(f"{what.decode()} is said again, and the book can't be asked for it: {fault}")
             return False
         if newest is Newest.UNSETTLED:

@@ -72,7 +72,7 @@ def full_book(place: Place) -> None:
     scale.start()
     service.wait_for_error("hall: the book is full: ")
     need("hall: 3 rows are left of 300: " in service.errors(), service.errors())
-    service.wait_for_error("hall: lane 1, batch A: refused 5 BookFull 300 at 300")
+    service.wait_for_error("hall: lane 1, batch A: refused 5 BookFull at 300")
     wait_for(lambda: service.lanes()[-1:] == ["book full"], "lanes.txt says that it is full")
     status, _ = ask(place.port, "/summary")
     need(status == 200, "the door answers")

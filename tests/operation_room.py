@@ -296,13 +296,18 @@ class Tunnel:
             threading.Thread(target=self.carry, args=(scale,), daemon=True).start()
 
     def carry(self, scale: socket.socket) -> None:
-        """Hands on what the scale says to the hall that is there."""
+        """Hands on what the scale says to the hall that is there. Where the scale says no more,
+        what that hall still says is brought back."""
+        back: threading.Thread | None = None
         hall: socket.socket | None = None
         with scale:
             for piece in pieces(scale):
                 while True:
                     try:
-                        hall = hall or self.reach(scale)
+                        if hall is None:
+                            hall = socket.create_connection(("127.0.0.1", self.target), PATIENCE)
+                            back = threading.Thread(target=self.bring_back, args=(hall, scale))
+                            back.start()
                         hall.sendall(piece)
                         break
                     except OSError:
@@ -310,13 +315,10 @@ class Tunnel:
                         time.sleep(0.05)
                         if is_left(scale):
                             return
-        if hall is not None:
-            hall.close()
-
-    def reach(self, scale: socket.socket) -> socket.socket:
-        hall = socket.create_connection(("127.0.0.1", self.target), timeout=PATIENCE)
-        threading.Thread(target=self.bring_back, args=(hall, scale), daemon=True).start()
-        return hall
+            if hall is not None:
+                shut(hall, socket.SHUT_WR)
+            if back is not None:
+                back.join()
 
     def bring_back(self, hall: socket.socket, scale: socket.socket) -> None:
         for piece in pieces(hall):
@@ -326,10 +328,14 @@ class Tunnel:
             except OSError:
                 break
         # what is said now to this hall fails, and goes to the next
-        try:
-            hall.shutdown(socket.SHUT_RDWR)
-        except OSError:
-            pass
+        shut(hall, socket.SHUT_RDWR)
+
+
+def shut(link: socket.socket, how: int) -> None:
+    try:
+        link.shutdown(how)
+    except OSError:
+        pass
 
 
 def is_left(link: socket.socket) -> bool:

@@ -8,20 +8,23 @@ beside a hall that does what FORMATS says: where connections are cut and their a
 the book asked; and where none is cut, the hall slower than the sender waits, without the book. No
 weight stands twice, none is left out, and none is acknowledged that isn't there. Then the whole
 sender, as a process: lines that are too long and weights that are too great; a weight whose
-acknowledgement is lost at a good end, with the book asked and without. Done in 20 seconds, at most
-3 minutes; status 1 at any difference.
+acknowledgement is lost at a good end, with the book asked and without; halls that are slower than
+the sender waits, and end. Done in 3 minutes, at most 10; status 1 at any difference.
 """
 
 import copy
 import enum
 import http.server
 import os
+import random
+import select
 import subprocess
 import sys
 import threading
 import time
 import socket
-from dataclasses import dataclass, field
+from collections.abc import Callable
+from dataclasses import dataclass, field, replace
 from typing import NoReturn
 
 HERE = os.path.dirname(os.path.abspath(__file__))
@@ -30,9 +33,14 @@ sys.path.insert(0, os.path.dirname(SENDER))
 sys.dont_write_bytecode = True
 
 import scale_sender  # noqa: E402  pylint: disable=wrong-import-position
+from operation_room import Tunnel  # noqa: E402  pylint: disable=wrong-import-position
 
 # How many weights there are, how many steps, and how many new halls at most.
-WEIGHTS, DEPTH, HALLS = 4, 40, 2
+WEIGHTS, DEPTH, HALLS = 4, 28, 2
+# How many halls end of those that are slower than the sender waits, and how long they wait at most
+# before they see that they are to end, in seconds.
+ENDS = 20
+LOOK = 0.02
 
 
 def fail(said: str) -> NoReturn:
@@ -88,6 +96,13 @@ class World:
                 known.in_step, self.taken, tuple(self.rows), self.weight, self.is_connected,
                 self.is_dead, self.is_one_left, tuple(self.lines), tuple(self.answers),
                 self.was_said, self.is_settled, self.is_new, self.halls)  # fmt: skip
+
+    def again(self) -> "World":
+        """The same world, to be changed."""
+        numbers = copy.copy(self.numbers)
+        numbers.tries, numbers.said = list(numbers.tries), set(numbers.said)
+        return replace(self, numbers=numbers, rows=list(self.rows), lines=list(self.lines),
+                       answers=list(self.answers))  # fmt: skip
 
     def cut(self) -> None:
         """The connection is cut: what was on its way is lost."""
@@ -146,7 +161,7 @@ def hall_takes(world: World) -> None:
 
 def step(world: World, what: str) -> World | None:
     """The world after a step, or nothing where it can't be."""
-    world = copy.deepcopy(world)
+    world = world.again()
     world.steps += (what,)
     if what == "connect" and not world.is_connected:
         connect(world, False)
@@ -287,6 +302,9 @@ class Hall:
     def __init__(self) -> None:
         self.rows: list[str] = []
         self.is_deaf = False
+        # how long the hall may take over a weight, in seconds, as drawn
+        self.delays = [0.0]
+        self.draw = random.Random(64)
         self.door = http.server.ThreadingHTTPServer(("127.0.0.1", 0), self.answerer())
         threading.Thread(target=self.door.serve_forever, daemon=True).start()
         self.port = 0
@@ -295,23 +313,35 @@ class Hall:
     def begin(self) -> None:
         """Takes connections, having taken nothing."""
         self.taken = 0
+        self.is_ending = False
         self.listener = socket.create_server(("127.0.0.1", self.port))
         self.port = self.listener.getsockname()[1]
-        threading.Thread(target=self.serve, args=(self.listener,), daemon=True).start()
+        self.thread = threading.Thread(target=self.serve, daemon=True)
+        self.thread.start()
 
-    def serve(self, listener: socket.socket) -> None:
-        while True:
-            try:
-                link = listener.accept()[0]
-            except OSError:
-                return
-            with link, link.makefile("rb") as lines:
-                for line in lines:
-                    if not self.take(link, line.decode().split()):
-                        break
-                else:
+    def end(self) -> None:
+        """Ends in good order: what was taken is acknowledged."""
+        self.is_ending = True
+        self.thread.join()
+
+    def serve(self) -> None:
+        """Serves one connection after another."""
+        with self.listener as listener:
+            while not self.is_ending:
+                if select.select([listener], [], [], LOOK)[0]:
+                    self.hear(listener.accept()[0])
+
+    def hear(self, link: socket.socket) -> None:
+        """Takes the lines of a connection, until its end or the hall's."""
+        held = b""
+        with link:
+            while not self.is_ending:
+                if not select.select([link], [], [], LOOK)[0]:
                     continue
-                listener.close()
+                came = received(link)
+                *lines, held = (held + came).split(b"\n")
+                if not came or not all(self.take(link, line.decode().split()) for line in lines):
+                    return
 
     def take(self, link: socket.socket, words: list[str]) -> bool:
         """Takes a line. Where it is deaf it ends well after it, and its answer is lost."""
@@ -320,11 +350,14 @@ class Hall:
             self.taken = number
             if what != "end":
                 self.rows.append(what)
-                if self.is_deaf:
-                    return False
-        if number <= self.taken:
-            link.sendall(b"ack %d\n" % self.taken)
-        return True
+                self.is_ending = self.is_ending or self.is_deaf
+                time.sleep(self.draw.choice(self.delays))
+        if number <= self.taken and not self.is_deaf:
+            try:
+                link.sendall(b"ack %d\n" % self.taken)
+            except OSError:
+                return False
+        return not self.is_ending
 
     def answerer(self) -> type[http.server.BaseHTTPRequestHandler]:
         hall = self
@@ -343,7 +376,11 @@ class Hall:
                 self.send_response(200)
                 self.send_header("Content-Length", str(len(body)))
                 self.end_headers()
-                self.wfile.write(body)
+                try:
+                    self.wfile.write(body)
+                except OSError:
+                    # the sender waits no more on a machine that is so slow
+                    pass
 
             def log_message(self, format: str, *args: object) -> None:
                 pass
@@ -351,9 +388,17 @@ class Hall:
         return Answerer
 
 
-def run_sender(hall: Hall, words: list[str]) -> subprocess.Popen[str]:
+def received(link: socket.socket) -> bytes:
+    """What comes of a connection; nothing where it is cut."""
+    try:
+        return link.recv(65536)
+    except OSError:
+        return b""
+
+
+def run_sender(port: int, words: list[str]) -> subprocess.Popen[str]:
     return subprocess.Popen(
-        [sys.executable, SENDER, str(hall.port), "--seconds=1", *words],
+        [sys.executable, SENDER, str(port), "--seconds=1", *words],
         stdin=subprocess.PIPE, stdout=subprocess.PIPE, stderr=subprocess.PIPE,
         encoding="latin-1", bufsize=1)  # fmt: skip
 
@@ -363,7 +408,7 @@ def check_lost(words: list[str], rows: list[str], complaints: int) -> None:
     hall = Hall()
     if "--book" in words:
         words = [*words, f"http://127.0.0.1:{hall.door.server_port}", "--lane", "3"]
-    sender = run_sender(hall, words)
+    sender = run_sender(hall.port, words)
     assert sender.stdin and sender.stdout
     for weight in ("262.000", "263.000"):
         sender.stdin.write(f"{weight}\n")
@@ -382,10 +427,34 @@ def check_lost(words: list[str], rows: list[str], complaints: int) -> None:
         fail(f"{words}: status {sender.returncode}, and it says {said!r}")
 
 
+def check_slow(words: list[str], through: Callable[[int], int]) -> None:
+    """Halls that take longer over a weight than the sender waits, and end in good order, one after
+    the other: each weight stands once, in order."""
+    hall = Hall()
+    hall.delays = [0.0] * 8 + [0.7, 1.3, 2.1, 3.2]
+    if "--book" in words:
+        words = [*words, f"http://127.0.0.1:{hall.door.server_port}", "--lane", "3"]
+    given = [f"{262_000 + at}" for at in range(ENDS * 6)]
+    given = [f"{weight[:3]}.{weight[3:]}" for weight in given]
+    sender = run_sender(through(hall.port), words)
+    assert sender.stdin
+    sender.stdin.write("".join(f"{weight}\n" for weight in given))
+    sender.stdin.close()
+    for _ in range(ENDS):
+        time.sleep(hall.draw.uniform(0.2, 2.0))
+        hall.end()
+        hall.begin()
+    if sender.wait(900) != 0:
+        fail(f"{words}: status {sender.returncode}")
+    if hall.rows != given:
+        odd = [at for at, pair in enumerate(zip(hall.rows, given)) if pair[0] != pair[1]]
+        fail(f"{words}: {len(hall.rows)} of {len(given)} weights, other ones from {odd[:1]} on")
+
+
 def check_bad_lines() -> None:
     """20 MB without a line's end, lines too long, weights over 30 kg, and one that is just that."""
     hall = Hall()
-    sender = run_sender(hall, [])
+    sender = run_sender(hall.port, [])
     began = time.monotonic()
     given = ["0" * 20_000_000, "262.000", "1" * 65, "30000.001", "30000", "262,0", "30000.000\r"]
     _, said = sender.communicate("\n".join(given), timeout=100)
@@ -404,6 +473,10 @@ def main() -> None:
     check_bad_lines()
     check_lost([], ["262.000", "263.000", "263.000", "263.000", "264.000", "263.000"], 1)
     check_lost(["--book"], ["262.000", "263.000", "263.000", "264.000", "263.000"], 0)
+    check_slow([], lambda port: port)
+    check_slow(["--book"], lambda port: Tunnel(port).port)
+    print(f"sender: {ENDS} ends of slow halls at their own port, and {ENDS} behind a tunnel with"
+          " the book asked: each weight stands once")  # fmt: skip
     print("sender: a weight whose acknowledgement is lost at a good end stands twice and is"
           " reported; with the book asked it stands once")  # fmt: skip
 
