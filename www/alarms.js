@@ -42,6 +42,9 @@ addWords({
 });
 
 const SHOWN = 3;
+// Texts from so many letters on are smaller where several stand beside one another: the second size
+// from where two lines of a wall are full, the third from where three of a small screen are.
+const LONG = [48, 76, 92];
 export const NEARLY_FULL = 9_500;
 
 export const share = (sheet, { allowed }) =>
@@ -130,7 +133,8 @@ export class AlarmBar {
 
   draw(all, isSounding) {
     const line = ([kind, sign, text]) =>
-      make("li", { className: kind }, icon(sign), make("span", {}, text));
+      make("li", { className: kind, "data-long": LONG.filter((most) => text.length > most).length },
+        icon(sign), make("span", {}, text));
     const lines = all.slice(0, SHOWN).map(line);
     if (all.length > SHOWN) {
       lines.push(make("li", { className: "more none" },
