@@ -9,7 +9,7 @@ import { pending, told } from "./kept.js";
 import { lacks, myDesk } from "./mydesk.js";
 import { make, put, verdictTag } from "./page.js";
 import { day as spellDay, fixed, grams as spell } from "./numbers.js";
-import { outcomeWords } from "./refusals.js";
+import { outcomeWords } from "./outcomes.js";
 
 addWords({
   underWay: ["Under way ..", "Unterwegs .."],
@@ -153,7 +153,7 @@ export async function sendAct(said, act) {
   tell(said, "", say("underWay"));
   const entry = await outcome(myDesk(), give(myDesk(), act));
   const { done } = entry.found;
-  tell(said, done ? "done" : "refused", outcomeWords(entry));
+  tell(said, done ? "done" : "refused", await outcomeWords(entry));
   if (done?.verdict) {
     tell(said, "", "");
     said.append(verdictTag(done.verdict));

@@ -11,7 +11,7 @@ import { icon, loadStyles, make, put, redraw } from "./page.js";
 import { isTask, nextOf } from "./tasks.js";
 import { partOf, stepList, stepPanel } from "./steps.js";
 import { onChange } from "./requests.js";
-import { outcomeWords } from "./refusals.js";
+import { outcomeWords } from "./outcomes.js";
 
 addWords({
   waits: ["Waits for you", "Wartet auf Sie"],
@@ -42,6 +42,7 @@ addWords({
 // How often the list of what is in force is asked for anew, in milliseconds.
 const LIST_EVERY = 10_000;
 const TOLD = 12;
+const BATCH_UNKNOWN = 14;
 const MOST_TASKS = 40;
 const MOST_CLOSED = 8;
 
@@ -153,10 +154,10 @@ function putWork(isAnew = false) {
   if (key === state.shown && !isAnew) return;
   state.shown = key;
   if (!sheet) {
-    const text = state.batch && state.rows ? outcomeWords({ found: { refused: 14 } })
-      : say("chooseTask");
-    place.work.replaceChildren(make("h1", { className: "unseen" }, say("desk")),
-      make("p", { className: "quiet" }, text));
+    const text = make("p", { className: "quiet" });
+    place.work.replaceChildren(make("h1", { className: "unseen" }, say("desk")), text);
+    if (!state.batch || !state.rows) put(text, say("chooseTask"));
+    else outcomeWords({ found: { refused: BATCH_UNKNOWN } }).then((words) => put(text, words));
     return;
   }
   const acts = { told, openAct,
@@ -224,16 +225,24 @@ function buildMenu() {
 
 // ---- the page
 
-function putTold() {
+let tellings = 0;
+
+async function putTold() {
   const [kind, text] = pendingWords();
   place.pending.className = `pending ${kind}`;
   put(place.pending, text);
-  redraw(place.told, toldActs(TOLD).map((entry) => {
+  tellings += 1;
+  const telling = tellings;
+  const entries = toldActs(TOLD);
+  const outcomes = await Promise.all(entries.map(outcomeWords));
+  // another telling may have begun meanwhile, and knows more
+  if (telling !== tellings) return;
+  redraw(place.told, entries.map((entry, at) => {
     const [act, what] = actWords(entry);
     const isDone = Boolean(entry.found.done);
     return make("li", { className: isDone ? "done" : "refused" },
       make("span", { className: "t-act" }, icon(isDone ? "pass" : "reject"), act), " ",
-      make("span", {}, what), ". ", make("span", {}, outcomeWords(entry)));
+      make("span", {}, what), ". ", make("span", {}, outcomes[at]));
   }));
 }
 
