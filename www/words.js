@@ -84,6 +84,7 @@ const WORDS = {
   countInadequate: ["{count} that count are inadequate", "{count}, die zählen, sind unzulässig"],
 };
 
+// More texts: in both languages, or in that of the page alone.
 export function addWords(more) {
   Object.assign(WORDS, more);
 }
@@ -92,7 +93,10 @@ export function fill(text, values) {
   return text.replace(/\{(\w+)\}/g, (_, name) => values[name] ?? "");
 }
 
-const wordsOf = (key) => (Object.hasOwn(WORDS, key) ? WORDS[key][LANGUAGE] : null);
+function wordsOf(key) {
+  const found = Object.hasOwn(WORDS, key) ? WORDS[key] : null;
+  return Array.isArray(found) ? found[LANGUAGE] : found;
+}
 
 export function say(key, values = {}) {
   return fill(wordsOf(key) ?? key, values);
