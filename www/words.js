@@ -84,8 +84,11 @@ const WORDS = {
   countInadequate: ["{count} that count are inadequate", "{count}, die zählen, sind unzulässig"],
 };
 
-// More texts: in both languages, or in that of the page alone.
+// More texts: in both languages, or in that of the page alone. A key has one text on all pages.
 export function addWords(more) {
+  const isOther = (key) => Object.hasOwn(WORDS, key) && String(WORDS[key]) !== String(more[key]);
+  const twice = Object.keys(more).filter(isOther);
+  if (twice.length) console.error(`other texts have these keys: ${twice}`);
   Object.assign(WORDS, more);
 }
 
