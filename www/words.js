@@ -86,7 +86,7 @@ const WORDS = {
 
 // More texts: in both languages, or in that of the page alone. A key has one text on all pages.
 export function addWords(more) {
-  const isOther = (key) => Object.hasOwn(WORDS, key) && String(WORDS[key]) !== String(more[key]);
+  const isOther = (key) => Object.hasOwn(WORDS, key) && textOf(WORDS[key]) !== textOf(more[key]);
   const twice = Object.keys(more).filter(isOther);
   if (twice.length) console.error(`other texts have these keys: ${twice}`);
   Object.assign(WORDS, more);
@@ -96,10 +96,8 @@ export function fill(text, values) {
   return text.replace(/\{(\w+)\}/g, (_, name) => values[name] ?? "");
 }
 
-function wordsOf(key) {
-  const found = Object.hasOwn(WORDS, key) ? WORDS[key] : null;
-  return Array.isArray(found) ? found[LANGUAGE] : found;
-}
+const textOf = (found) => (Array.isArray(found) ? found[LANGUAGE] : found);
+const wordsOf = (key) => (Object.hasOwn(WORDS, key) ? textOf(WORDS[key]) : null);
 
 export function say(key, values = {}) {
   return fill(wordsOf(key) ?? key, values);
