@@ -21,7 +21,8 @@ PLACES = """
     /usr/sbin/hall-status /usr/lib/hall/start /usr/lib/hall/watch /usr/lib/hall/stop
     /usr/lib/hall/list /lib/systemd/system/hall@.service /lib/systemd/system/hall-list@.timer
     /lib/systemd/system/hall-backup@.timer /usr/share/hall/nginx.conf /usr/share/hall/site.conf
-    /usr/share/hall/desks.js /usr/share/hall/pages.js /usr/share/hall/hall.env /usr/share/hall/www/index.html
+    /usr/share/hall/desks.js /usr/share/hall/pages.js /usr/share/hall/hall.env
+    /usr/share/hall/www/index.html
     /usr/share/hall/scales/lane.sh /usr/share/hall/scales/gate.sh /usr/bin/hall-adapter
     /usr/bin/hall-inspect /usr/share/hall/scales/scale_sender.py /usr/share/hall/standby.sh /etc/hall/hall.nft
     /usr/share/bash-completion/completions/hall /usr/share/doc/hall/examples/draw_again.sh
