@@ -154,7 +154,8 @@ window.hallChecks = (() => {
     "a role that isn't known": () => all("[role]").filter((one) => !["alert", "status", "img",
       "search", "radiogroup", "group"].includes(one.getAttribute("role"))),
     "a small place to press": () =>
-      seen("button, .button, select, input:not([type=radio],[type=range])").filter((one) => one.getBoundingClientRect().height < 24),
+      seen("button, .button, select, input:not([type=radio],[type=range])")
+        .filter((one) => one.getBoundingClientRect().height < 24),
   };
   function unnamed() {
     const faults = Object.entries(RULES).flatMap(([rule, find]) =>
