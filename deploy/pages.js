@@ -1,6 +1,6 @@
 // The pages as the front sends them: without their comments and the blanks before a line, which are
-// for whoever changes them. The files stay as they are, and each line keeps its number. Run by nginx
-// (njs 0.7).
+// for whoever changes them. The files stay as they are, and each line keeps its number. Run by
+// nginx (njs 0.7).
 
 const SCRIPT = 'application/javascript';
 const STYLE = 'text/css';

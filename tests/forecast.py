@@ -1,6 +1,6 @@
 """Draws books, lets the program judge them, and compares with what the pages' modules say: the
-forecast of the ended batch with the packers' part of its verdict, at 1 mg and at 1 pack; the figures
-of the reference test with those of tests/forecast_model.py. Run by tests/forecast.sh."""
+forecast of the ended batch with the packers' part of its verdict, at 1 mg and at 1 pack; the
+figures of the reference test with those of tests/forecast_model.py. Run by tests/forecast.sh."""
 
 import json
 import os
@@ -20,11 +20,8 @@ A_BOOK = 20
 AT_ONCE = 2
 PARTS = ("average", "allowance", "inadequate")
 # How the lines of a sheet begin.
-SHEET = tuple(
-    "batch ,state,readings,passed,rejected,sampled,voided,population,held,test,second,verdict".split(
-        ","
-    )
-)
+PILES = ("readings", "passed", "rejected", "sampled", "voided")
+SHEET = ("batch ", "state", *PILES, "population", "held", "test", "second", "verdict")
 Answer = dict[str, Any]
 
 
@@ -105,7 +102,8 @@ def last_net(draw: random.Random, batch: Batch) -> int:
 
 
 def draw_case(draw: random.Random, most: int, book: Book, mode: str = "keep") -> Case:
-    """A batch of a book, up to its end. Where the tare was corrected at the end all packs passed."""
+    """A batch of a book, up to its end. Where the tare was corrected at the end all packs
+    passed."""
     name = f"B{len(book.names)}"
     book.names.append(name)
     goods, (product, opening) = draw_goods(draw, name)
@@ -366,9 +364,7 @@ def main() -> None:
     kinds = count_kinds([one.verdict for one in judged])
     print(f"forecast: {kinds}; {at_bound} within 2 mg of the average")
     open_ones = sum(bool(paper.contents[1]) for paper in papers)
-    print(
-        f"forecast: {papers_wanted} papers, {open_ones} with a second sample: all figures are the same"
-    )
+    print(f"forecast: {papers_wanted} papers, {open_ones} with a second sample: figures the same")
 
 
 if __name__ == "__main__":

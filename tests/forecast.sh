@@ -1,6 +1,7 @@
 #!/bin/sh
 # The forecast of the board and the figures of sheet and measuring, by the pages' own modules under
-# node, beside the program's verdicts and an independent reckoning, over drawn books of 20 batches each.
+# node, beside the program's verdicts and an independent reckoning, over drawn books of 20 batches
+# each.
 #
 # usage: tests/forecast.sh [BATCHES [PAPERS [SEED]]]     1000, 200 and 70 without them
 #        HALL names the program

@@ -22,7 +22,8 @@ PLACES = """
     /usr/lib/hall/list /usr/lib/hall/in_force.py /lib/systemd/system/hall@.service
     /lib/systemd/system/hall-list@.service
     /lib/systemd/system/hall-backup@.timer /usr/share/hall/nginx.conf /usr/share/hall/site.conf
-    /usr/share/hall/desks.js /usr/share/hall/pages.js /usr/share/hall/hall.env /usr/share/hall/www/index.html
+    /usr/share/hall/desks.js /usr/share/hall/pages.js /usr/share/hall/hall.env
+    /usr/share/hall/www/index.html
     /usr/share/hall/scales/lane.sh /usr/share/hall/scales/gate.sh /usr/bin/hall-adapter
     /usr/bin/hall-inspect /usr/bin/hall-count /usr/share/hall/scales/scale_sender.py
     /usr/share/hall/standby.sh /usr/share/hall/shipments.py /etc/hall/hall.nft

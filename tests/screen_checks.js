@@ -4,7 +4,8 @@
 
 window.hallChecks = (() => {
   const shown = (one) => one.checkVisibility({ visibilityProperty: true, opacityProperty: true });
-  const isAside = (one) => one.closest(".unseen, .skip, noscript, datalist, option, [aria-hidden=true] .unseen");
+  const ASIDE = ".unseen, .skip, noscript, datalist, option, [aria-hidden=true] .unseen";
+  const isAside = (one) => one.closest(ASIDE);
   const named = (one) => `${one.tagName.toLowerCase()}.${one.getAttribute("class") ?? ""}`
     + ` ${(one.textContent ?? "").trim().slice(0, 60)}`;
 
@@ -19,7 +20,8 @@ window.hallChecks = (() => {
       if (["TITLE", "DESC", "SCRIPT", "STYLE"].includes(one.tagName.toUpperCase())) continue;
       const range = document.createRange();
       range.selectNodeContents(node);
-      const boxes = [...range.getClientRects()].filter(({ width, height }) => width > 1 && height > 1);
+      const isSeen = ({ width, height }) => width > 1 && height > 1;
+      const boxes = [...range.getClientRects()].filter(isSeen);
       if (boxes.length) found.push({ one, boxes, text: node.data.trim() });
     }
     return found;
@@ -53,7 +55,8 @@ window.hallChecks = (() => {
   // Boxes without the upper and lower quarter of their lines, which may touch.
   const core = ({ left, right, top, bottom, height }) =>
     ({ left: left + 1, right: right - 1, top: top + height / 4, bottom: bottom - height / 4 });
-  const meet = (a, b) => a.left < b.right && b.left < a.right && a.top < b.bottom && b.top < a.bottom;
+  const meet = (a, b) => a.left < b.right && b.left < a.right
+    && a.top < b.bottom && b.top < a.bottom;
 
   function overlapping() {
     const all = texts().flatMap(({ one, boxes }) => boxes.map((box) => ({ one, box: core(box) })));
@@ -133,7 +136,8 @@ window.hallChecks = (() => {
   const RULES = {
     "no name": () => seen("a, button, input, select, textarea, summary, [role=img], [role=search],"
       + " nav, dialog, [role=radiogroup], [role=group]").filter((one) => !nameOf(one)),
-    "an id twice": () => all("[id]").filter((one) => all(`[id="${CSS.escape(one.id)}"]`).length > 1),
+    "an id twice": () => all("[id]")
+      .filter((one) => all(`[id="${CSS.escape(one.id)}"]`).length > 1),
     "names nothing": () => all("[aria-labelledby], [aria-describedby], label[for], [list]")
       .filter((one) => ["aria-labelledby", "aria-describedby", "for", "list"]
         .some((key) => one.getAttribute(key)
@@ -141,15 +145,17 @@ window.hallChecks = (() => {
     "out of the order of Tab": () => all("[tabindex]").filter((one) => one.tabIndex > 0),
     "a table without a caption": () => seen("table").filter((one) => !one.caption?.textContent),
     "a head without a scope": () => seen("th").filter((one) => !one.scope),
-    "not in a list": () => seen("li").filter((one) => !["OL", "UL"].includes(one.parentElement.tagName)),
+    "not in a list": () => seen("li")
+      .filter((one) => !["OL", "UL"].includes(one.parentElement.tagName)),
     "no item": () => seen("ol, ul").flatMap((one) => [...one.children])
       .filter((one) => one.tagName !== "LI"),
     "not in a list of terms": () => seen("dt, dd").filter((one) => !one.closest("dl")),
     "a dead link": () => all("a[href]").filter((one) => !/^#\w+/.test(one.getAttribute("href"))),
-    "a role that isn't known": () => all("[role]").filter((one) => !["alert", "status", "img", "search",
-      "radiogroup", "group"].includes(one.getAttribute("role"))),
-    "a small place to press": () => seen("button, .button, select, input:not([type=radio],[type=range])")
-      .filter((one) => one.getBoundingClientRect().height < 24),
+    "a role that isn't known": () => all("[role]").filter((one) => !["alert", "status", "img",
+      "search", "radiogroup", "group"].includes(one.getAttribute("role"))),
+    "a small place to press": () =>
+      seen("button, .button, select, input:not([type=radio],[type=range])")
+        .filter((one) => one.getBoundingClientRect().height < 24),
   };
   function unnamed() {
     const faults = Object.entries(RULES).flatMap(([rule, find]) =>

@@ -1,5 +1,6 @@
-"""What the pages say, beside what is so: forecasts, alarms and their sound, lanes that stand, a full
-book, the settings of the hall, and stores that hold what isn't theirs. A part of tests/screen.py."""
+"""What the pages say, beside what is so: forecasts, alarms and their sound, rejects, lanes that
+stand, a full book, the settings of the hall, and stores that hold what isn't theirs. A part of
+tests/screen.py."""
 
 import os
 import threading
@@ -53,6 +54,42 @@ def check_short(room, wall):
     need("0 of 3" in wall.text("#board .b-meters"), "150 packs have an allowance of 3")
     need("FPackV" in wall.text("#board .b-meters"), "the country's rule has a line of its own")
     print(f"screen: {said.strip()}", flush=True)
+
+
+def check_rejects(room, wall):
+    """The last signal is large; that packs before it were rejected, and why, stays to be seen."""
+    packs = good(room.draw, 120)
+    # 230.5 g net lie below T2, 232 g
+    packs[100] = packs[110] = 240_500
+    room.fill("\n".join(opening(["rice250"]) + ["open REJECTS rice250"]
+                        + weighing(1, "REJECTS", packs)) + "\n")
+    room.weigh(["REJECTS"], [silent()])
+    wall.open("board")
+    wall.reload()
+    wait_board(wall, "2 of the last 60 rejected, the newest: inadequate", "#board .w-lane .unseen")
+    need(wall.text("#board .w-out") == "2inadequate", f"it shows {wall.text('#board .w-out')}")
+    shown = wall.run("return document.querySelector('#board .w-out > span').checkVisibility()")
+    need(shown, "the cause of the last reject isn't shown")
+    print("screen: rejects of the last 60 packs stay on the board with their cause", flush=True)
+
+
+def check_lost(room, anna):
+    """Acts that this browser kept and can't read are told, until a person has looked."""
+    anna.open("desk")
+    anna.find("#my-desk")
+    for kept in ('{"0": 1}', '[{"mark": 5}]', "spoiled"):
+        anna.run("localStorage['hall.acts.101'] = arguments[0]", kept)
+        anna.reload()
+        anna.choose_desk(101)
+        anna.wait_text("#desk .unread", kept)
+        need("isn't known" in anna.text("#desk .unread"), "it isn't said that nobody knows")
+        # they stay until somebody has looked
+        anna.reload()
+        anna.wait_text("#desk .unread", kept)
+        anna.find("#desk .unread button").click()
+        wait_until(lambda: anna.text("#desk .unread") == "", "looked at", 30)
+    need(anna.run("return localStorage['hall.acts.101']") == "[]", "the store holds them still")
+    print("screen: kept acts that can't be read are told", flush=True)
 
 
 def silent():
@@ -138,7 +175,8 @@ def check_settings(room, wall):
 
 
 def check_stores(room, wall):
-    """Pages work on where the store holds anything, and where the address names no page of theirs."""
+    """Pages work on where the store holds anything, and where the address names no page of
+    theirs."""
     for name, value in SPOILED.items():
         wall.run("localStorage[arguments[0]] = arguments[1]", name, value)
     for page in ("board", "constructor", "__proto__", "toString/x", "lane", "desk", "sheet/ONE",
@@ -154,7 +192,8 @@ def check_stores(room, wall):
 
 
 def check_lane(room, wall, anna):
-    """A tablet: the signal has more than half of the screen; the last pack is voided with a reason."""
+    """A tablet: the signal has more than half of the screen; the last pack is voided with a
+    reason."""
     draw = room.draw
     room.fill("\n".join(opening(["rice250"]) + ["open LINE rice250"]
                         + weighing(1, "LINE", good(draw, 120))) + "\n")
@@ -204,10 +243,12 @@ def run_signs(program, folder, pictures):
     check_short(room, wall)
     check_average(room, wall)
     check_held(room, wall)
+    check_rejects(room, wall)
     check_lanes(room, wall)
     check_settings(room, wall)
     check_stores(room, wall)
     check_lane(room, wall, anna)
+    check_lost(room, anna)
     for browser in room.browsers:
         complaints = browser.complaints()
         need(not complaints, f"the browser complains: {complaints}")

@@ -11,6 +11,8 @@ from screen_pages import make_room, open_page, set_language
 
 # Bytes that a page may load in all, and as the front sends them.
 PAGE_BYTES, SENT_BYTES = 100_000, 35_000
+# What a mode that a person opens may add: measuring, the void of a pack.
+MODE_BYTES, MODE_SENT = 20_000, 8_000
 
 
 def shifts(browser, since):
@@ -47,28 +49,57 @@ def check_stays(browser):
         stays(browser, 8, page)
 
 
+def loaded(browser):
+    """What the page has loaded so far: bytes, bytes as the front sent them, and what it asked
+    elsewhere. Answers of the office and files of the book are no part of it."""
+    return browser.run("""
+        const all = performance.getEntriesByType("resource")
+            .concat(performance.getEntriesByType("navigation"));
+        const asked = /\\/hall\\/|\\/papers\\/|(list|lanes)\\.txt|settings\\.json/;
+        const own = all.filter((one) => !asked.test(one.name));
+        const sum = (key) => own.reduce((total, one) => total + one[key], 0);
+        return [sum("decodedBodySize"), sum("encodedBodySize"),
+            all.filter((one) => !one.name.startsWith(location.origin)).map((one) => one.name)]""")
+
+
+def measure_pack(browser):
+    browser.find(".go-measure").click()
+    browser.find("#m-gross")
+
+
+def void_pack(browser):
+    browser.find(".st-void:not([disabled])").click()
+    browser.find("dialog .picks input")
+    browser.find("dialog .ends .second").click()
+
+
+# Each page, what stands on it when it is there, and a mode of it that loads more when it is opened.
+LOADED = [
+    ("board", "#board .strip", None),
+    ("lane/1", "#lane .st-signal", void_pack),
+    ("batch/RICE-1201-A", "#batch svg.figure", None),
+    ("desk/RICE-1130-D", "#desk .step.measure", measure_pack),
+    ("sheet/RICE-1130-E", "#sheet .paper", None),
+    ("search", "#search .notice", None),
+]
+
+
 def check_size(browser):
-    """Each page loads itself alone, from here alone, and is small."""
-    for page, selector in (("board", "#board .strip"), ("lane/1", "#lane .st-signal"),
-                           ("batch/RICE-1201-A", "#batch svg.figure"), ("desk", "#desk .task"),
-                           ("sheet/RICE-1130-E", "#sheet .paper"), ("search", "#search .notice")):
+    """Each page loads itself alone, from here alone, and is small; so is what a mode adds."""
+    for page, selector, open_mode in LOADED:
         browser.driver.get("about:blank")
         open_page(browser, page, selector)
-        if page == "desk":
-            browser.open("desk/RICE-1130-D")
-            browser.find(".go-measure").click()
-            browser.find("#m-gross")
-        size, sent, elsewhere = browser.run("""
-            const all = performance.getEntriesByType("resource")
-                .concat(performance.getEntriesByType("navigation"));
-            const asked = /\\/hall\\/|\\/papers\\/|(list|lanes)\\.txt|settings\\.json/;
-            const own = all.filter((one) => !asked.test(one.name));
-            const sum = (key) => own.reduce((total, one) => total + one[key], 0);
-            return [sum("decodedBodySize"), sum("encodedBodySize"),
-                all.filter((one) => !one.name.startsWith(location.origin)).map((one) => one.name)]""")
+        size, sent, elsewhere = loaded(browser)
         need(10_000 < size <= PAGE_BYTES and sent <= SENT_BYTES and not elsewhere,
              f"the page {page} loads {size} bytes, {sent} as sent, of elsewhere {elsewhere}")
-        print(f"screen: the page {page.split('/')[0]} loads {size} bytes, {sent} as sent",
+        more = ""
+        if open_mode:
+            open_mode(browser)
+            all_size, all_sent, elsewhere = loaded(browser)
+            need(all_size - size <= MODE_BYTES and all_sent - sent <= MODE_SENT and not elsewhere,
+                 f"a mode of {page} loads {all_size - size} more, {all_sent - sent} as sent")
+            more = f"; {all_size - size} more with its mode, {all_sent - sent} as sent"
+        print(f"screen: the page {page.split('/')[0]} loads {size} bytes, {sent} as sent{more}",
               flush=True)
 
 

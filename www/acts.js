@@ -1,62 +1,14 @@
 // The acts of a desk: their fields, how one is sent, and what became of it.
 
 import * as grams from "./grams.js";
-import * as office from "./office.js";
 import { addNames, names } from "./names.js";
-import { addWords, say, word } from "./words.js";
+import { say, word } from "./words.js";
 import { give, outcome, why } from "./requests.js";
 import { pending, told } from "./kept.js";
 import { lacks, myDesk } from "./mydesk.js";
 import { make, put, verdictTag } from "./page.js";
-import { day as spellDay, fixed, grams as spell } from "./numbers.js";
-import { outcomeWords } from "./refusals.js";
-
-addWords({
-  underWay: ["Under way ..", "Unterwegs .."],
-  asksAgain: ["Request {request}: no answer yet, asked again{tries}. Nothing is done twice.",
-    "Auftrag {request}: noch keine Antwort, wird wieder gefragt{tries}. Nichts geschieht doppelt."],
-  asked: ["Request {request} is asked.", "Auftrag {request} wird gefragt."],
-  diskFailed: [
-    "The book's disk failed. Call whoever runs the hall. Request {request} is asked again.",
-    "Die Platte des Buchs versagt. Die Betreuung rufen. Auftrag {request} wird wieder gefragt."],
-  cannot: ["It can't be taken back.", "Es kann nicht zurückgenommen werden."],
-  farOff: ["The book has {gross} g for this pack, and {typed} g was typed.",
-    "Im Buch steht {gross} g für diese Packung, getippt ist {typed} g."],
-  "act.day": ["Set the day", "Tag setzen"],
-  "act.product": ["New product", "Neue Ware"],
-  "act.product_ml": ["New product by volume", "Neue Ware nach Volumen"],
-  "act.tare": ["Set a tare", "Tara setzen"],
-  "act.open": ["Open a batch", "Charge eröffnen"],
-  "act.open_at": ["Open a batch of goods by volume", "Charge nach Volumen eröffnen"],
-  "act.void": ["Void a pack", "Packung streichen"],
-  "act.end": ["End a batch", "Charge beenden"],
-  "act.draw": ["Draw the sample", "Probe ziehen"],
-  "act.measure": ["Measure one pack", "Eine Packung nachwiegen"],
-  "act.second": ["Draw the second sample", "Zweite Probe ziehen"],
-  "act.close": ["Close a batch", "Charge abschließen"],
-  "field.day": ["Day", "Tag"],
-  "field.from": ["From this day on", "Ab diesem Tag"],
-  "field.name": ["Name", "Name"],
-  "field.nominal": ["Nominal quantity, g", "Nennmenge, g"],
-  "field.nominal_ml": ["Nominal quantity, ml", "Nennmenge, ml"],
-  "field.density": ["Density, g a litre", "Dichte, g je Liter"],
-  "field.product": ["Product", "Ware"],
-  "field.tare": ["Empty package, g", "Leere Verpackung, g"],
-  "field.batch": ["Batch", "Charge"],
-  "field.pack": ["Pack number", "Nummer der Packung"],
-  "field.mode": ["The packs", "Die Packungen"],
-  "field.word": ["Word of the draw (made up; note it)", "Wort der Ziehung (erdacht; notieren)"],
-  "field.gross": ["Whole pack, g", "Ganze Packung, g"],
-  "field.empty": ["Empty pack, g", "Leere Packung, g"],
-  keep: ["are kept", "bleiben heil"],
-  destroy: ["are opened and emptied", "werden geöffnet und geleert"],
-  "bad.name": ["1 to 32 of A-Z a-z 0-9 - _ . and a letter or digit first.",
-    "1 bis 32 aus A-Z a-z 0-9 - _ . und vorn ein Buchstabe oder eine Ziffer."],
-  "bad.day": ["A day from 1970-01-01 on.", "Ein Tag ab 1970-01-01."],
-  "bad.amount": ["A value from {least} to {most} {unit}, as 262.12.",
-    "Ein Wert von {least} bis {most} {unit}, wie 262,12."],
-  "bad.number": ["A whole number up to {most}.", "Eine ganze Zahl bis {most}."],
-});
+import { fixed, grams as spell } from "./numbers.js";
+import { outcomeWords } from "./outcomes.js";
 
 // The acts of a desk, as the menu has them.
 export const ACT_NAMES = ["day", "product", "product_ml", "tare", "open", "open_at", "end", "draw",
@@ -153,7 +105,7 @@ export async function sendAct(said, act) {
   tell(said, "", say("underWay"));
   const entry = await outcome(myDesk(), give(myDesk(), act));
   const { done } = entry.found;
-  tell(said, done ? "done" : "refused", outcomeWords(entry));
+  tell(said, done ? "done" : "refused", await outcomeWords(entry));
   if (done?.verdict) {
     tell(said, "", "");
     said.append(verdictTag(done.verdict));

@@ -41,8 +41,20 @@ addWords({
   "state turns": ["its scale reached its bound", "ihre Waage ist an ihrer Grenze"],
 });
 
-const SHOWN = 3;
 export const NEARLY_FULL = 9_500;
+const SHOWN = 3;
+// Texts from so many letters on are smaller where several stand beside one another: the second size
+// from where two lines of a wall are full, the third from where three of a small screen are.
+const LONG = [48, 76, 92];
+// A name of so many letters fills a line by itself, and leaves as many of the next one.
+const LONG_NAME = 22;
+const LEFT = 16;
+
+function sizeOf(text) {
+  const isNamed = text.split(/[ :]/)[0].length > LONG_NAME;
+  const letters = text.length + (isNamed ? LEFT : 0);
+  return LONG.filter((most) => letters > most).length;
+}
 
 export const share = (sheet, { allowed }) =>
   (allowed ? sheet.nonstandard / allowed : sheet.nonstandard);
@@ -130,7 +142,8 @@ export class AlarmBar {
 
   draw(all, isSounding) {
     const line = ([kind, sign, text]) =>
-      make("li", { className: kind }, icon(sign), make("span", {}, text));
+      make("li", { className: kind, "data-long": sizeOf(text) },
+        icon(sign), make("span", {}, text));
     const lines = all.slice(0, SHOWN).map(line);
     if (all.length > SHOWN) {
       lines.push(make("li", { className: "more none" },

@@ -14,7 +14,7 @@ import { forecastOf } from "./forecast.js";
 import { forecastWords } from "./forecastwords.js";
 
 addWords({
-  toSheet: ["Sheet to print", "Blatt zum Drucken"],
+  printSheet: ["Sheet to print", "Blatt zum Drucken"],
   all: ["All", "Alle"],
   window: ["Packs shown", "Gezeigte Packungen"],
   packOf: ["{place} of {count}", "{place} von {count}"],
@@ -108,7 +108,7 @@ function titleOf(sheet) {
       `${sheet.product} · ${quantity(sheet.quantity)} ${sheet.unit} · ${word(sheet.state)}`)),
   sheet.verdict ? verdictTag(sheet.verdict) : says, make("p", { className: "right" },
     make("a", { className: "button second", href: `#sheet/${sheet.batch}` }, icon("print"),
-      say("toSheet"))));
+      say("printSheet"))));
 }
 
 // ---- the chart and its cursor

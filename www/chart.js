@@ -129,11 +129,19 @@ function histogramBars(shown, { low, top, up, right, bars, nets }, isOnly) {
     text(start, nets.top - 22, say("byNet"), "strong")];
 }
 
+// The words of a tare have so much room; where the next one lies closer, its line stands alone.
+const TARE_WIDE = 120;
+
 function tareLines(packs, [from, to], { x, nets, bottom }) {
+  let free = 0;
   return tareChanges(packs).filter(({ place }) => place >= from && place < to)
-    .map(({ place, tare }) => [
-      shape("path", { class: "l-event", d: `M${x(place)} ${nets.top}V${bottom}` }),
-      text(x(place) + 5, nets.top - 4, say("tareFrom", { tare: grams(tare) }), "t-event")]);
+    .map(({ place, tare }) => {
+      const at = x(place);
+      const isFree = at >= free;
+      if (isFree) free = at + TARE_WIDE;
+      return [shape("path", { class: "l-event", d: `M${at} ${nets.top}V${bottom}` }), isFree
+        ? text(at + 5, nets.top - 4, say("tareFrom", { tare: grams(tare) }), "t-event") : []];
+    });
 }
 
 function packNumbers(packs, [from, to], { x, bottom }, wide) {

@@ -4,44 +4,22 @@
 import * as office from "./office.js";
 import { ACT_NAMES, actWords, nameLists, pendingWords, toldActs } from "./acts.js";
 import { addListed, names } from "./names.js";
-import { addWords, say, word } from "./words.js";
+import { CODE, addWords, say, word } from "./words.js";
 import { count, day, quantity } from "./numbers.js";
 import { deskChoice, onDesk } from "./mydesk.js";
 import { icon, loadStyles, make, put, redraw } from "./page.js";
 import { isTask, nextOf } from "./tasks.js";
 import { partOf, stepList, stepPanel } from "./steps.js";
 import { onChange } from "./requests.js";
-import { outcomeWords } from "./refusals.js";
+import { outcomeWords } from "./outcomes.js";
 
-addWords({
-  waits: ["Waits for you", "Wartet auf Sie"],
-  runs: ["Runs, nothing to do", "Läuft, nichts zu tun"],
-  closedLately: ["Closed", "Abgeschlossen"],
-  otherActs: ["Every other act", "Jede andere Handlung"],
-  findAct: ["Search acts", "Handlung suchen"],
-  noAct: ["No act is called so.", "Keine Handlung heißt so."],
-  nothingWaits: ["Nothing waits. Batches that need a person come here by themselves.",
-    "Nichts wartet. Chargen, die jemanden brauchen, kommen von selbst hierher."],
-  chooseTask: ["Choose a batch at the left, or an act below it.",
-    "Links eine Charge wählen oder darunter eine Handlung."],
-  "next held": ["held: void a pack, or correct the tare",
-    "gesperrt: Packung streichen oder Tara berichtigen"],
-  "next end": ["its lanes stopped: end it", "ihre Linien stehen: beenden"],
-  "next draw": ["draw the sample", "Probe ziehen"],
-  "next measure": ["measure, {measured} of {count} done",
-    "nachwiegen, {measured} von {count} getan"],
-  "next second": ["draw the second sample", "zweite Probe ziehen"],
-  "next close": ["close it", "abschließen"],
-  noForm: ["No answer: the form can't be shown now.",
-    "Keine Antwort: das Formular kann jetzt nicht gezeigt werden."],
-  told: ["Told by the book", "Vom Buch gesagt"],
-  bookDay: ["Day of the book: {day}", "Tag des Buchs: {day}"],
-  inForce: ["What is in force", "Was gilt"],
-});
+// The texts of the desk, of its steps and of its acts, in the language of the page.
+addWords((await import(`./desk_${CODE}.js`)).default);
 
 // How often the list of what is in force is asked for anew, in milliseconds.
 const LIST_EVERY = 10_000;
 const TOLD = 12;
+const BATCH_UNKNOWN = 14;
 const MOST_TASKS = 40;
 const MOST_CLOSED = 8;
 
@@ -153,10 +131,10 @@ function putWork(isAnew = false) {
   if (key === state.shown && !isAnew) return;
   state.shown = key;
   if (!sheet) {
-    const text = state.batch && state.rows ? outcomeWords({ found: { refused: 14 } })
-      : say("chooseTask");
-    place.work.replaceChildren(make("h1", { className: "unseen" }, say("desk")),
-      make("p", { className: "quiet" }, text));
+    const text = make("p", { className: "quiet" });
+    place.work.replaceChildren(make("h1", { className: "unseen" }, say("desk")), text);
+    if (!state.batch || !state.rows) put(text, say("chooseTask"));
+    else outcomeWords({ found: { refused: BATCH_UNKNOWN } }).then((words) => put(text, words));
     return;
   }
   const acts = { told, openAct,
@@ -224,16 +202,24 @@ function buildMenu() {
 
 // ---- the page
 
-function putTold() {
+let tellings = 0;
+
+async function putTold() {
   const [kind, text] = pendingWords();
   place.pending.className = `pending ${kind}`;
   put(place.pending, text);
-  redraw(place.told, toldActs(TOLD).map((entry) => {
+  tellings += 1;
+  const telling = tellings;
+  const entries = toldActs(TOLD);
+  const outcomes = await Promise.all(entries.map(outcomeWords));
+  // another telling may have begun meanwhile, and knows more
+  if (telling !== tellings) return;
+  redraw(place.told, entries.map((entry, at) => {
     const [act, what] = actWords(entry);
     const isDone = Boolean(entry.found.done);
     return make("li", { className: isDone ? "done" : "refused" },
       make("span", { className: "t-act" }, icon(isDone ? "pass" : "reject"), act), " ",
-      make("span", {}, what), ". ", make("span", {}, outcomeWords(entry)));
+      make("span", {}, what), ". ", make("span", {}, outcomes[at]));
   }));
 }
 

@@ -1,6 +1,6 @@
-// What this browser keeps of a desk: acts that wait for an answer, outcomes, the desk's last number.
-// Another program or an older page may have written there too; acts that can't be read are set aside
-// and told, since nobody knows whether they were done.
+// What this browser keeps of a desk: acts that wait for an answer, outcomes, the desk's last
+// number. Another program or an older page may have written there too; acts that can't be read are
+// set aside and told, since nobody knows whether they were done.
 
 import { keep, readKept, readText } from "./store.js";
 

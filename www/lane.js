@@ -18,12 +18,12 @@ addWords({
   WAIT: ["Waiting for a pack", "Wartet auf Packung"],
   IDLE: ["No batch", "Keine Charge"],
   OFFLINE: ["No answer", "Keine Antwort"],
-  waits: ["Since {time} no pack came.", "Seit {time} kam keine Packung."],
+  waitsSince: ["Since {time} no pack came.", "Seit {time} kam keine Packung."],
   idleText: ["This lane has no batch now. The plan of the hall gives it one.",
     "Diese Linie hat jetzt keine Charge. Der Plan der Halle gibt ihr eine."],
   offline: ["The book hasn't answered for {time}. What stands here is old.",
     "Das Buch antwortet seit {time} nicht. Was hier steht, ist alt."],
-  open: ["The gate opens.", "Das Tor öffnet."],
+  gateOpens: ["The gate opens.", "Das Tor öffnet."],
   shut: ["Take it off the belt. It doesn't count.", "Vom Band nehmen. Sie zählt nicht."],
   "why allowance": ["Too light, and one in forty is used up.",
     "Zu leicht, und 1 von 40 ist verbraucht."],
@@ -37,7 +37,7 @@ addWords({
   "more full": ["Call the office: the next batch is needed.",
     "Das Büro rufen: die nächste Charge ist nötig."],
   lastTen: ["Last ten packs", "Letzte zehn Packungen"],
-  packNo: ["pack {pack}", "Packung {pack}"],
+  packNamed: ["pack {pack}", "Packung {pack}"],
   packsThere: ["Packs of 10 000", "Packungen von 10 000"],
   lightOf: ["Non-standard of allowed", "Untermaß von erlaubt"],
   overNominal: ["Average over nominal", "Mehr als Nennmenge"],
@@ -139,7 +139,7 @@ function putSignal() {
   }
   const silence = (Date.now() - state.since) / 1000;
   if (!pack || pack.batch !== state.batch || silence > settings.alarms.silence) {
-    const since = pack ? say("waits", { time: time(state.since) }) : "";
+    const since = pack ? say("waitsSince", { time: time(state.since) }) : "";
     return draw("wait", "idle", say("WAIT"), ["", since]);
   }
   return putPack(pack, limitsOf(state.sheet ?? { quantity: pack.net }));
@@ -149,9 +149,9 @@ function putPack(pack, limits) {
   const [first, cause] = pack.signal.split(" ");
   const figures = { net: grams(pack.net), t1: grams(limits.t1), t2: grams(limits.t2) };
   const net = make("p", { className: "st-net" }, make("strong", {}, `${grams(pack.net, 1)} g`),
-    make("span", {}, say("packNo", { pack: count(pack.number) })));
+    make("span", {}, say("packNamed", { pack: count(pack.number) })));
   const isPass = first === "pass";
-  const why = isPass ? say("open") : say(`why ${cause}`);
+  const why = isPass ? say("gateOpens") : say(`why ${cause}`);
   const more = isPass ? "" : `${say(`more ${cause}`, figures)} ${say("shut")}`;
   const kind = isPass ? "pass" : "reject";
   const told = say(isPass ? "PASS" : "REJECT");

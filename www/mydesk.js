@@ -13,8 +13,8 @@ addWords({
   chooseDesk: ["Choose your desk first.", "Zuerst den Platz wählen."],
   otherPage: ["Another page of this browser has this desk. Go on there, or close it.",
     "Eine andere Seite dieses Browsers hat diesen Platz. Dort weitermachen oder sie schließen."],
-  lostActs: ["This browser kept acts of desk {desk} that can't be read. Whether they were done isn't "
-    + "known: look at the batches, and do again what is missing.",
+  lostActs: ["This browser kept acts of desk {desk} that can't be read. Whether they were done "
+    + "isn't known: look at the batches, and do again what is missing.",
   "Dieser Browser hat Handlungen von Platz {desk} aufgehoben, die nicht lesbar sind. Ob sie getan "
     + "sind, ist nicht bekannt: die Chargen ansehen und wiederholen, was fehlt."],
   lostText: ["Kept was: {text}", "Aufgehoben war: {text}"],
@@ -98,6 +98,6 @@ export function deskChoice(id) {
   onDesk(show);
   onChange(show);
   show();
-  return make("div", { className: "desk-choice" }, make("label", { for: id }, say("myDesk")), choice,
-    other, unread);
+  return make("div", { className: "desk-choice" }, make("label", { for: id }, say("myDesk")),
+    choice, other, unread);
 }

@@ -75,7 +75,7 @@ addWords({
     "▼ unter T1 ({t1} g): fehlerhaft. Getönt: zählt für den Mittelwert."],
   tares: ["Tares in force for its packs", "Taren, die für ihre Packungen gelten"],
   tareDay: ["{day}: {tare} g", "{day}: {tare} g"],
-  tareFrom: ["{tare} g from pack {pack} on", "{tare} g ab Packung {pack}"],
+  tareSince: ["{tare} g from pack {pack} on", "{tare} g ab Packung {pack}"],
   tareNote: ["As they now are; a corrected one judged its packs anew.",
     "Wie sie jetzt sind; eine berichtigte hat ihre Packungen neu beurteilt."],
   outs: ["Rejected and voided packs: {count}", "Ausgeschleuste und gestrichene Packungen: {count}"],
@@ -185,7 +185,7 @@ function tareLines({ paper }, packs) {
   if (packs.length === 0) return [];
   const first = packs[0];
   const changes = [{ place: 0, tare: first.gross - first.net }, ...tareChanges(packs)];
-  return changes.map(({ place, tare }) => [say("tareFrom",
+  return changes.map(({ place, tare }) => [say("tareSince",
     { tare: grams(tare), pack: count(packs[place].number) }), ""]);
 }
 

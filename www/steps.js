@@ -1,6 +1,6 @@
 // The next step of a batch: a title, why, what is good to know, and one button that does it.
 
-import { addWords, say } from "./words.js";
+import { say } from "./words.js";
 import { count, grams as spell, mass } from "./numbers.js";
 import { STEPS, nextOf, stepOf } from "./tasks.js";
 import { drawn, isReady, makeField, makeSaid, readAll, sendAct } from "./acts.js";
@@ -8,73 +8,6 @@ import { icon, make, meter, tag, verdictTag } from "./page.js";
 import { forecastOf } from "./forecast.js";
 import { forecastWords } from "./forecastwords.js";
 import { planOf } from "./rules.js";
-
-addWords({
-  "step weigh": ["Weigh", "Wiegen"],
-  "step end": ["End", "Beenden"],
-  "step draw": ["Draw", "Ziehen"],
-  "step measure": ["Measure", "Nachwiegen"],
-  "step close": ["Close", "Abschließen"],
-  stepDone: ["done", "getan"],
-  weighTitle: ["{batch} runs", "{batch} läuft"],
-  weighText: ["Nothing to do: it can be ended when its lanes have stopped.",
-    "Nichts zu tun: beenden geht, wenn ihre Linien stehen."],
-  endTitle: ["End {batch}?", "{batch} beenden?"],
-  endText: ["All its lanes have stopped. After this no pack can be added to it.",
-    "Alle ihre Linien stehen. Danach kommt keine Packung mehr dazu."],
-  endDo: ["End the batch", "Charge beenden"],
-  drawTitle: ["Draw {first} of {count} packs", "{first} von {count} Packungen ziehen"],
-  drawText: ["The plan for {count} packs: at most {c1} of {first} below T1 accepts, {r1} rejects; "
-    + "between them {second} more are drawn.",
-  "Der Plan für {count} Packungen: höchstens {c1} von {first} unter T1 nimmt an, {r1} weist "
-    + "zurück; dazwischen werden {second} weitere gezogen."],
-  drawAll: ["Under 100 packs all are measured: at most {c1} of them below T1 accepts.",
-    "Unter 100 Packungen werden alle nachgewogen: höchstens {c1} davon unter T1 nimmt an."],
-  keepWhole: ["The packs are kept", "Die Packungen bleiben heil"],
-  keepHint: ["weighed whole, less the tare", "ganz gewogen, abzüglich Tara"],
-  destroyWhole: ["The packs are opened", "Die Packungen werden geöffnet"],
-  destroyHint: ["20 packs, each with its own empty weight",
-    "20 Packungen, jede mit eigenem Leergewicht"],
-  wordHint: ["Made up by this machine; who knows it can draw the sample again. An inspector may "
-    + "give one.", "Von dieser Maschine erdacht; wer es kennt, kann die Probe noch einmal ziehen. "
-    + "Der Prüfer darf eines geben."],
-  drawDo: ["Draw the sample", "Probe ziehen"],
-  measureTitle: ["Measure the sample: {done} of {all} done",
-    "Probe nachwiegen: {done} von {all} getan"],
-  measureText: ["You can stop at any time; what is recorded stays.",
-    "Sie können jederzeit aufhören; was erfasst ist, bleibt."],
-  measureDo: ["Measure", "Nachwiegen"],
-  secondTitle: ["{d1} below T1 leave it open", "{d1} unter T1 lassen es offen"],
-  secondText: ["With at most {c1} it would be accepted now, with {r1} rejected. {second} more "
-    + "packs decide: at most {c2} of both together.",
-  "Mit höchstens {c1} wäre sie jetzt angenommen, mit {r1} zurückgewiesen. {second} weitere "
-    + "entscheiden: höchstens {c2} von beiden zusammen."],
-  secondDo: ["Draw the second sample", "Zweite Probe ziehen"],
-  heldTitle: ["{batch} is held", "{batch} ist gesperrt"],
-  heldText: ["A pack that counts lacks more than twice the tolerable error, so every pack is "
-    + "rejected. Was it found and taken out? Then void it. Was the tare wrong? Then correct it.",
-  "Einer Packung, die zählt, fehlt mehr als das Doppelte des Fehlers; darum wird jede Packung "
-    + "ausgeschleust. Ist sie gefunden und heraus? Dann streichen. War die Tara falsch? Dann "
-    + "berichtigen."],
-  closeTitle: ["Close {batch}", "{batch} abschließen"],
-  closeText: ["The sample is measured and decides. The verdict can't be changed afterwards.",
-    "Die Probe ist nachgewogen und entscheidet. Das Urteil kann danach nicht geändert werden."],
-  closeEmpty: ["No pack counts: it is closed as empty.",
-    "Keine Packung zählt: sie wird als leer abgeschlossen."],
-  closeDo: ["Close the batch", "Charge abschließen"],
-  closedTitle: ["{batch} is closed", "{batch} ist abgeschlossen"],
-  closedText: ["Its sheet can be printed.", "Ihr Blatt kann gedruckt werden."],
-  wouldNow: ["All packs now", "Alle Packungen jetzt"],
-  countsNow: ["Packs that count", "Packungen, die zählen"],
-  overNow: ["Average over nominal", "Durchschnitt über Nennmenge"],
-  lightNow: ["Non-standard of allowed", "Untermaß von erlaubt"],
-  defectsNow: ["Defective in the sample", "Fehlerhaft in der Probe"],
-  c1r1: ["{d1}, c1 = {c1}, r1 = {r1}", "{d1}, c1 = {c1}, r1 = {r1}"],
-  c2r2: ["{both}, c2 = {c2}, r2 = {r2}", "{both}, c2 = {c2}, r2 = {r2}"],
-  pickList: ["Pick list", "Suchliste"],
-  toSheet: ["Sheet", "Blatt"],
-  toChart: ["Chart", "Karte"],
-});
 
 export function stepList(next) {
   const now = stepOf(next);

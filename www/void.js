@@ -7,7 +7,7 @@ import { count, grams } from "./numbers.js";
 import { deskChoice, lacks, myDesk, onDesk } from "./mydesk.js";
 import { give, outcome } from "./requests.js";
 import { make, put } from "./page.js";
-import { outcomeWords } from "./refusals.js";
+import { outcomeWords } from "./outcomes.js";
 
 addWords({
   voidTitle: ["Void pack {pack}?", "Packung {pack} streichen?"],
@@ -53,7 +53,7 @@ export function open(dialog, pack) {
     const mark = give(myDesk(), { act: "void", pack: pack.number, reason });
     const entry = await outcome(myDesk(), mark);
     said.className = `said ${entry.found.done ? "done" : "refused"}`;
-    put(said, outcomeWords(entry));
+    put(said, await outcomeWords(entry));
     put(back, say("back"));
     back.focus();
   });

@@ -84,7 +84,11 @@ const WORDS = {
   countInadequate: ["{count} that count are inadequate", "{count}, die zählen, sind unzulässig"],
 };
 
+// More texts: in both languages, or in that of the page alone. A key has one text on all pages.
 export function addWords(more) {
+  const isOther = (key) => Object.hasOwn(WORDS, key) && textOf(WORDS[key]) !== textOf(more[key]);
+  const twice = Object.keys(more).filter(isOther);
+  if (twice.length) console.error(`other texts have these keys: ${twice}`);
   Object.assign(WORDS, more);
 }
 
@@ -92,7 +96,8 @@ export function fill(text, values) {
   return text.replace(/\{(\w+)\}/g, (_, name) => values[name] ?? "");
 }
 
-const wordsOf = (key) => (Object.hasOwn(WORDS, key) ? WORDS[key][LANGUAGE] : null);
+const textOf = (found) => (Array.isArray(found) ? found[LANGUAGE] : found);
+const wordsOf = (key) => (Object.hasOwn(WORDS, key) ? textOf(WORDS[key]) : null);
 
 export function say(key, values = {}) {
   return fill(wordsOf(key) ?? key, values);
