@@ -91,20 +91,19 @@ class Listing:
         yield f"rows {self.rows} left {max(0, limit - self.rows)}"
 
 
-class Counted(Listing):
-    """The same, asked what an act alone doesn't tell. It says how often."""
+class Asked:
+    """Answers what an act alone doesn't tell, and counts how often it was asked for the tares."""
 
-    def __init__(self, rows):
-        super().__init__()
-        self.all, self.asked = rows, 0
+    def __init__(self, listing, rows):
+        self.listing, self.rows, self.times = listing, rows, 0
 
     def batch_of(self, pack):
-        return self.packs[pack]
+        return self.listing.packs[pack]
 
     def tares(self, rows):
-        self.asked += 1
+        self.times += 1
         return [Tare(act["product"], act["day"], grams(act["tare"]))
-                for act in (row.act for row in self.all[:rows]) if act["act"] == "tare"]
+                for act in (row.act for row in self.rows[:rows]) if act["act"] == "tare"]
 
 
 def carried_on(program, book, limit, chance):
@@ -113,22 +112,23 @@ def carried_on(program, book, limit, chance):
     begun = chance.randint(0, len(rows))
     ran = subprocess.run([program, "acts", f"--book={book}", f"--after={begun}"], check=True,
                          capture_output=True, text=True, timeout=SECONDS)
-    counted = Counted(rows)
+    counted = Listing()
+    asked = Asked(counted, rows)
     for row in rows[:begun]:
         counted.add(row)
     told = InForce.read("".join(f"{line}\n" for line in counted.text(limit)), limit)
     for row, line in zip(rows[begun:], ran.stdout.splitlines(), strict=True):
-        told.take(line, counted)
+        told.take(line, asked)
         counted.add(row)
         wanted = "".join(f"{line}\n" for line in counted.text(limit))
         if told.text() != wanted:
             sys.exit(f"carried on from row {begun} by\n{line}\nit says\n{told.text()}"
                      f"and not\n{wanted}")
     try:
-        told.take(f"{len(rows)} ok\tscript\tday 2030-01-01", counted)
+        told.take(f"{len(rows)} ok\tscript\tday 2030-01-01", asked)
         sys.exit(f"row {len(rows)} is taken twice")
     except Unclear:
-        return counted.asked
+        return asked.times
 
 
 def compare(program, folder, chance):
