@@ -141,14 +141,14 @@ lane 1 batch A
 rows 9 left 91
 """
 ACTS = ("10 pass\tlane 1\tweigh 1 262.000 stayed", "11 ok\tdoor 1\t@101 1 void 8",
-        "12 ok\tdoor 1\t@101 2 tare P 2025-03-09 10.000", "13 ok\tlane 1\tstop 1 unknown",
-        "14 ok\tscript\ttare P 2025-03-02 8.000")
+        "12 ok\tlane 1\tstop 1 unknown")
+TARES = ("tare P 2025-03-09 10.000", "tare P 2025-03-02 8.000")
 THEN = """day 2025-03-03
 product P nominal 250.000 g tare 8.000
 tare P from 2025-03-09 10.000
 tare P from 2025-03-09 10.000
 batch A product P state running population 1
-desk 101 request 2
+desk 101 request 1
 rows 14 left 86
 """
 
@@ -164,9 +164,10 @@ class ByHand:
                 Tare("P", "2025-03-09", "11.000")]
 
 
-def carried_by_hand():
+def carried_by_hand(tares):
     told = InForce.read(BEGUN, 100)
-    for line in ACTS:
+    lines = [f"{row} ok\tscript\t{tare}" for row, tare in enumerate(tares, 13)]
+    for line in (*ACTS, *lines):
         told.take(line, ByHand())
     if told.text() != THEN:
         sys.exit(f"carried on by hand it says\n{told.text()}and not\n{THEN}")
@@ -195,7 +196,8 @@ def main():
     seed = int(sys.argv[2]) if len(sys.argv) > 2 else random.randrange(10**6)
     program = os.environ.get("HALL", f"{HERE}/../hall")
     counts = {}
-    carried_by_hand()
+    carried_by_hand(TARES)
+    carried_by_hand(reversed(TARES))
     with tempfile.TemporaryDirectory() as folder:
         for book in range(books):
             for line in compare(program, folder, random.Random(f"{seed} {book}")):
