@@ -91,20 +91,19 @@ class Listing:
         yield f"rows {self.rows} left {max(0, limit - self.rows)}"
 
 
-class Counted(Listing):
-    """The same, asked what an act alone doesn't tell. It says how often."""
+class Asked:
+    """Answers what an act alone doesn't tell, and counts how often it was asked for the tares."""
 
-    def __init__(self, rows):
-        super().__init__()
-        self.all, self.asked = rows, 0
+    def __init__(self, listing, rows):
+        self.listing, self.rows, self.times = listing, rows, 0
 
     def batch_of(self, pack):
-        return self.packs[pack]
+        return self.listing.packs[pack]
 
     def tares(self, rows):
-        self.asked += 1
+        self.times += 1
         return [Tare(act["product"], act["day"], grams(act["tare"]))
-                for act in (row.act for row in self.all[:rows]) if act["act"] == "tare"]
+                for act in (row.act for row in self.rows[:rows]) if act["act"] == "tare"]
 
 
 def carried_on(program, book, limit, chance):
@@ -113,22 +112,65 @@ def carried_on(program, book, limit, chance):
     begun = chance.randint(0, len(rows))
     ran = subprocess.run([program, "acts", f"--book={book}", f"--after={begun}"], check=True,
                          capture_output=True, text=True, timeout=SECONDS)
-    counted = Counted(rows)
+    counted = Listing()
+    asked = Asked(counted, rows)
     for row in rows[:begun]:
         counted.add(row)
     told = InForce.read("".join(f"{line}\n" for line in counted.text(limit)), limit)
     for row, line in zip(rows[begun:], ran.stdout.splitlines(), strict=True):
-        told.take(line, counted)
+        told.take(line, asked)
         counted.add(row)
         wanted = "".join(f"{line}\n" for line in counted.text(limit))
         if told.text() != wanted:
             sys.exit(f"carried on from row {begun} by\n{line}\nit says\n{told.text()}"
                      f"and not\n{wanted}")
     try:
-        told.take(f"{len(rows)} ok\tscript\tday 2030-01-01", counted)
+        told.take(f"{len(rows)} ok\tscript\tday 2030-01-01", asked)
         sys.exit(f"row {len(rows)} is taken twice")
     except Unclear:
-        return counted.asked
+        return asked.times
+
+
+# What draws seldom come to, worked out by hand: a list, acts behind it, and the list then. Pack 8 is
+# of A; the tare of 2025-03-09 was 10 g once before, and is so again.
+BEGUN = """day 2025-03-03
+product P nominal 250.000 g tare 9.000
+tare P from 2025-03-09 11.000
+batch A product P state running population 3
+lane 1 batch A
+rows 9 left 91
+"""
+ACTS = ("10 pass\tlane 1\tweigh 1 262.000 stayed", "11 ok\tdoor 1\t@101 1 void 8",
+        "12 ok\tlane 1\tstop 1 unknown")
+TARES = ("tare P 2025-03-09 10.000", "tare P 2025-03-02 8.000")
+THEN = """day 2025-03-03
+product P nominal 250.000 g tare 8.000
+tare P from 2025-03-09 10.000
+tare P from 2025-03-09 10.000
+batch A product P state running population 1
+desk 101 request 1
+rows 14 left 86
+"""
+
+
+class ByHand:
+    """The book of these rows."""
+
+    def batch_of(self, pack):
+        return {8: "A"}[pack]
+
+    def tares(self, rows):
+        return [Tare("P", "2025-03-01", "9.000"), Tare("P", "2025-03-09", "10.000"),
+                Tare("P", "2025-03-09", "11.000")]
+
+
+def carried_by_hand(tares):
+    told = InForce.read(BEGUN, 100)
+    lines = [f"{row} ok\tscript\t{tare}" for row, tare in enumerate(tares, 13)]
+    for line in (*ACTS, *lines):
+        told.take(line, ByHand())
+    if told.text() != THEN:
+        sys.exit(f"carried on by hand it says\n{told.text()}and not\n{THEN}")
 
 
 def compare(program, folder, chance):
@@ -154,6 +196,8 @@ def main():
     seed = int(sys.argv[2]) if len(sys.argv) > 2 else random.randrange(10**6)
     program = os.environ.get("HALL", f"{HERE}/../hall")
     counts = {}
+    carried_by_hand(TARES)
+    carried_by_hand(reversed(TARES))
     with tempfile.TemporaryDirectory() as folder:
         for book in range(books):
             for line in compare(program, folder, random.Random(f"{seed} {book}")):
