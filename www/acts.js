@@ -60,6 +60,7 @@ addWords({
   "field.word": ["Word of the draw (made up; note it)", "Wort der Ziehung (erdacht; notieren)"],
   "field.gross": ["Whole pack, g", "Ganze Packung, g"],
   "field.empty": ["Empty pack, g", "Leere Packung, g"],
+  "field.reason": ["Why? (kept by the archive)", "Warum? (hält das Archiv fest)"],
   keep: ["are kept", "bleiben heil"],
   destroy: ["are opened and emptied", "werden geöffnet und geleert"],
   "bad.name": ["1 to 32 of A-Z a-z 0-9 - _ . and a letter or digit first.",
@@ -67,6 +68,7 @@ addWords({
   "bad.day": ["A day from 1970-01-01 on.", "Ein Tag ab 1970-01-01."],
   "bad.amount": ["A value from {least} to {most} {unit}, as 262.12.",
     "Ein Wert von {least} bis {most} {unit}, wie 262,12."],
+  "bad.text": ["At most {most} letters.", "Höchstens {most} Buchstaben."],
   "bad.number": ["A whole number up to {most}.", "Eine ganze Zahl bis {most}."],
 });
 
@@ -74,6 +76,7 @@ const PRODUCT_ACTS = ["product", "product_ml"];
 const FAR_DAYS = 31;
 // A measured pack that differs by more than this part of its weight on the lane is asked twice.
 const FAR_PART = 0.05;
+const MOST_REASON = 200;
 
 const amount = (name, unit, [least, most]) => ({ name, kind: "amount", unit, least, most });
 const weight = (name, least, most) => amount(name, "g", [least, most]);
@@ -83,6 +86,8 @@ export const drawn = { name: "word", kind: "number", most: grams.MAX_WORD };
 const pack = { name: "pack", kind: "number", most: grams.MAX_NUMBER };
 export const gross = weight("gross", 0, grams.MAX_GROSS);
 export const empty = { ...weight("empty", 0, grams.MAX_TARE), optional: true };
+// The book passes it over; the front writes it down with the act and the person.
+const reason = { name: "reason", kind: "text", most: MOST_REASON, optional: true };
 const mode = { name: "mode", kind: "choice", choices: ["keep", "destroy"] };
 
 // The fields of each act, and what is looked at before it is sent. Goods by volume have acts of their
@@ -93,15 +98,15 @@ export const ACTS = {
   product_ml: { fields: [{ name: "name", kind: "name" },
     { ...amount("nominal", "ml", grams.NOMINAL), label: "nominal_ml" }] },
   tare: { fields: [product, { name: "day", kind: "day", label: "from" },
-    weight("tare", 0, grams.MAX_TARE)], hint: "tareReach" },
+    weight("tare", 0, grams.MAX_TARE), reason], hint: "tareReach" },
   open: { fields: [{ name: "batch", kind: "name" }, product] },
   open_at: { fields: [{ name: "batch", kind: "name" }, product,
     amount("density", "g/l", grams.DENSITY)] },
   end: { fields: [batch], look: lookAtBatch },
   draw: { fields: [batch, mode, drawn] },
   second: { fields: [batch, drawn] },
-  close: { fields: [batch], look: lookAtBatch },
-  void: { fields: [pack], look: lookAtPack },
+  close: { fields: [batch, reason], look: lookAtBatch },
+  void: { fields: [pack, reason], look: lookAtPack },
   measure: { fields: [pack, gross, empty], look: lookAtGross },
 };
 
@@ -144,6 +149,7 @@ export function read(field, text) {
   if (field.kind === "choice") return text;
   if (field.kind === "name") return grams.isName(text.trim()) ? text.trim() : null;
   if (field.kind === "day") return grams.isDay(text) ? text : null;
+  if (field.kind === "text") return text.trim().length <= field.most ? text.trim() : null;
   if (field.kind === "number") return grams.readNumber(text, field.most);
   const size = grams.readAmount(text, field.unit);
   return size !== null && size >= field.least && size <= field.most ? size : null;
@@ -163,7 +169,9 @@ function makeInput(field, id) {
   const input = make("input", { id, name: field.name, autocomplete: "off",
     type: field.kind === "day" ? "date" : "text", "aria-describedby": `${id}-bad` });
   if (field.list) input.setAttribute("list", field.list);
-  if (field.kind !== "name") input.inputMode = field.kind === "amount" ? "decimal" : "numeric";
+  if (!["name", "text"].includes(field.kind)) {
+    input.inputMode = field.kind === "amount" ? "decimal" : "numeric";
+  }
   if (field === drawn) input.value = grams.drawWord();
   return input;
 }
@@ -272,13 +280,24 @@ function clear(form) {
 // nominal quantity is in ml.
 const UNITS = { gross: "g", empty: "g", tare: "g", nominal: "g", density: "g/l" };
 
+// What was typed; another program may have written into the store.
+function reasonOf(text) {
+  try {
+    return JSON.parse(text);
+  } catch {
+    return text;
+  }
+}
+
 // An act in words, as it was kept.
 export function actWords({ act, members }) {
-  const spelled = members.split(",").slice(1).map((member) => {
+  const [, values, reason] = /^(.*?)(?:,"reason":(".*"))?$/s.exec(members);
+  const spelled = values.split(",").slice(1).map((member) => {
     const [, name, value] = /^"(\w+)":"?([^"]*)"?$/.exec(member) ?? ["", "", member];
     const unit = act === "product_ml" && name === "nominal" ? "ml" : UNITS[name];
     return unit ? `${spell(Number(value))} ${unit}` : value;
   });
+  if (reason) spelled.push(reasonOf(reason));
   return [say(`act.${act}`), spelled.join(", ")];
 }
 
