@@ -82,6 +82,8 @@ function formOf(kind, refresh) {
     make("p", { className: "acts" }, make("button", {}, say("keepEvidence"))), said);
   form.addEventListener("submit", async (event) => {
     event.preventDefault();
+    // what an earlier record offered
+    for (const offer of form.querySelectorAll("button[type=button]")) offer.remove();
     const texts = FIELDS[kind].map(([name]) => [name, form.elements[name].value]);
     const { faulty, body } = readEntry(kind, subject.value, Object.fromEntries(texts));
     if (faulty) {

@@ -177,9 +177,9 @@ def found_book(settings: Settings, word: str) -> tuple[Books, int, BookSettings]
 
 def register(settings: Settings, word: str, _: str) -> int:
     books, number, _book = found_book(settings, word)
-    out = io.TextIOWrapper(sys.stdout.buffer, "ascii", newline="", write_through=False)
-    out.writelines(books.register(number))
-    out.flush()
+    sys.stdout.flush()
+    sys.stdout.buffer.writelines(line.encode("ascii") for line in books.register(number))
+    sys.stdout.buffer.flush()
     return 0
 
 

@@ -2,6 +2,7 @@
 and `questions` alone import sqlalchemy."""
 
 import io
+import logging
 import os
 from collections.abc import Iterator, Sequence
 from contextlib import contextmanager
@@ -57,6 +58,7 @@ def open_engine(url: str, writes: bool = False) -> Any:
 
 def migrate(engine: Any) -> None:
     """Brings the tables to their newest form."""
+    logging.getLogger("alembic").setLevel(logging.WARNING)
     config = Config()
     config.set_main_option("script_location", MIGRATIONS)
     with engine.begin() as link:
