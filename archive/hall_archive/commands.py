@@ -30,6 +30,8 @@ from hall_archive.store import Store
 from hall_archive.witness import Witness, utc_text
 
 log = logging.getLogger("hall-archive")
+# The status of a follower that ended by a fault of its own: it is begun again.
+ENDED_EARLY = 3
 
 
 def book_of(settings: Settings, word: str) -> BookSettings:
@@ -69,11 +71,12 @@ def follow(settings: Settings, word: str, _: str) -> int:
     try:
         beside(settings, book, engine, following, thread)
     finally:
+        was_asked = following.stop.is_set()
         following.stop.set()
         thread.join()
     if following.other:
         raise OtherBook(following.other)
-    return 0
+    return 0 if was_asked else ENDED_EARLY
 
 
 def beside(
@@ -84,7 +87,7 @@ def beside(
     kept = Store(engine, book.hall, book.name)
     reader = settings.reader()
     people = People(kept, settings.front) if settings.front else None
-    witnessing = Witnessing(kept, Witness(settings.witness(book)), reader)
+    witnessing = witnessing_of(settings, book, kept, reader)
     checking = Checking(kept, Books(store.open_engine(settings.database)), reader)
     said, next_witness = Said(), 0.0
     while thread.is_alive() and not following.stop.wait(PEOPLE_EVERY):
@@ -94,13 +97,26 @@ def beside(
         try:
             if people:
                 people.look()
-            if closed or time.monotonic() >= next_witness:
+            if witnessing and (closed or time.monotonic() >= next_witness):
                 next_witness = time.monotonic() + WITNESS_EVERY
                 witnessing.look(bool(closed), moment)
             checking.look(moment)
             said.good("goes on")
-        except (Unkept, OSError, witness.Differs) as fault:
+        except (Unkept, OSError) as fault:
             said.fault(f"{book.name}: {fault}")
+
+
+def witnessing_of(
+    settings: Settings, book: BookSettings, kept: Store, reader: Reader
+) -> Witnessing | None:
+    """Keeps the witness of a book; none, and an alarm, where its file isn't chained any more."""
+    path = settings.witness(book)
+    try:
+        return Witnessing(kept, Witness(path), reader)
+    except witness.Differs as fault:
+        kept.alarm(time.time_ns() // 1_000_000, f"{path}: {fault}")
+        log.error("%s: %s: no line is added", path, fault)
+        return None
 
 
 class Rest:
