@@ -97,10 +97,11 @@ def beside(
         try:
             if people:
                 people.look()
-            if witnessing and (closed or time.monotonic() >= next_witness):
+            if closed or time.monotonic() >= next_witness:
                 next_witness = time.monotonic() + WITNESS_EVERY
-                witnessing.look(bool(closed), moment)
-            checking.look(moment)
+                if witnessing:
+                    witnessing.look(bool(closed), moment)
+                checking.look(moment)
             said.good("goes on")
         except (Unkept, OSError) as fault:
             said.fault(f"{book.name}: {fault}")
