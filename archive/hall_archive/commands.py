@@ -164,14 +164,19 @@ def take(settings: Settings, word: str, _: str) -> int:
 
 def compare_rows(kept: Store, reader: Reader, upto: int) -> None:
     """OtherBook where the book's first rows aren't those that were taken."""
+    if why := first_other(kept, reader, upto):
+        refuse(kept, why)
+
+
+def first_other(kept: Store, reader: Reader, upto: int) -> str:
+    """What of the book's first rows isn't as it was taken; nothing where all of it is."""
     lines = checks.lines_of(reader.ask(kept.name, "acts"))
-    row = 0
     ours = map(line_of, kept.entries(upto=upto))
+    row = 0
     for row, (one, other) in enumerate(zip(ours, lines, strict=False), 1):
         if f"{one}\n" != other:
-            refuse(kept, f"has another row {row} than was taken: {other[:80].rstrip()}")
-    if row < upto:
-        refuse(kept, f"has {row} rows, {upto} were taken")
+            return f"has another row {row} than was taken: {other[:80].rstrip()}"
+    return f"has {row} rows, {upto} were taken" if row < upto else ""
 
 
 def refuse(kept: Store, why: str) -> None:
