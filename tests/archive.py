@@ -248,7 +248,8 @@ def main() -> None:
         database = postgres.url if postgres else f"sqlite:///{folder}/archive.db"
         print(f"archive: over {kind}", flush=True)
         room = Room(f"{folder}/{kind}", database, f"{seed} {kind}")
-        need(room.ask("migrate") == (0, ""), "the tables are made")
+        done = room.ask("migrate")
+        need(done == (0, ""), f"the tables are made: {done}")
         checked = Checked(room, database)
         try:
             quiet(room, checked)

@@ -36,6 +36,7 @@ export function read(field, text) {
   if (field.kind === "choice") return text;
   if (field.kind === "name") return grams.isName(text.trim()) ? text.trim() : null;
   if (field.kind === "day") return grams.isDay(text) ? text : null;
+  if (field.kind === "text") return text.trim().length <= field.most ? text.trim() : null;
   if (field.kind === "number") return grams.readNumber(text, field.most);
   const size = grams.readAmount(text, field.unit);
   return size !== null && size >= field.least && size <= field.most ? size : null;
@@ -55,7 +56,9 @@ function makeInput(field, id) {
   const input = make("input", { id, name: field.name, autocomplete: "off",
     type: field.kind === "day" ? "date" : "text", "aria-describedby": `${id}-bad` });
   if (field.list) input.setAttribute("list", field.list);
-  if (field.kind !== "name") input.inputMode = field.kind === "amount" ? "decimal" : "numeric";
+  if (!["name", "text"].includes(field.kind)) {
+    input.inputMode = field.kind === "amount" ? "decimal" : "numeric";
+  }
   if (field === drawn) input.value = grams.drawWord();
   return input;
 }
@@ -123,13 +126,24 @@ export async function sendAct(said, act) {
 // nominal quantity is in ml.
 const UNITS = { gross: "g", empty: "g", tare: "g", nominal: "g", density: "g/l" };
 
+// What was typed; another program may have written into the store.
+function reasonOf(text) {
+  try {
+    return JSON.parse(text);
+  } catch {
+    return text;
+  }
+}
+
 // An act in words, as it was kept.
 export function actWords({ act, members }) {
-  const spelled = members.split(",").slice(1).map((member) => {
+  const [, values, reason] = /^(.*?)(?:,"reason":(".*"))?$/s.exec(members);
+  const spelled = values.split(",").slice(1).map((member) => {
     const [, name, value] = /^"(\w+)":"?([^"]*)"?$/.exec(member) ?? ["", "", member];
     const unit = act === "product_ml" && name === "nominal" ? "ml" : UNITS[name];
     return unit ? `${spell(Number(value))} ${unit}` : value;
   });
+  if (reason) spelled.push(reasonOf(reason));
   return [say(`act.${act}`), spelled.join(", ")];
 }
 

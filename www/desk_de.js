@@ -109,10 +109,12 @@ export default {
   "field.word": "Wort der Ziehung (erdacht; notieren)",
   "field.gross": "Ganze Packung, g",
   "field.empty": "Leere Packung, g",
+  "field.reason": "Warum? (hält das Archiv fest)",
   keep: "bleiben heil",
   destroy: "werden geöffnet und geleert",
   "bad.name": "1 bis 32 aus A-Z a-z 0-9 - _ . und vorn ein Buchstabe oder eine Ziffer.",
   "bad.day": "Ein Tag ab 1970-01-01.",
   "bad.amount": "Ein Wert von {least} bis {most} {unit}, wie 262,12.",
+  "bad.text": "Höchstens {most} Buchstaben.",
   "bad.number": "Eine ganze Zahl bis {most}.",
 };

@@ -105,10 +105,12 @@ export default {
   "field.word": "Word of the draw (made up; note it)",
   "field.gross": "Whole pack, g",
   "field.empty": "Empty pack, g",
+  "field.reason": "Why? (kept by the archive)",
   keep: "are kept",
   destroy: "are opened and emptied",
   "bad.name": "1 to 32 of A-Z a-z 0-9 - _ . and a letter or digit first.",
   "bad.day": "A day from 1970-01-01 on.",
   "bad.amount": "A value from {least} to {most} {unit}, as 262.12.",
+  "bad.text": "At most {most} letters.",
   "bad.number": "A whole number up to {most}.",
 };

@@ -26,10 +26,13 @@ addWords({
 });
 
 const FAR_DAYS = 31;
+const MOST_REASON = 200;
 
 const batch = { name: "batch", kind: "name", list: "batches" };
 const product = { name: "product", kind: "name", list: "products" };
 const pack = { name: "pack", kind: "number", most: grams.MAX_NUMBER };
+// The book passes it over; the front writes it down with the act and the person.
+const reason = { name: "reason", kind: "text", most: MOST_REASON, optional: true };
 const mode = { name: "mode", kind: "choice", choices: ["keep", "destroy"] };
 
 // The fields of each act, and what is looked at before it is sent. Goods by volume have acts of
@@ -40,15 +43,15 @@ export const ACTS = {
   product_ml: { fields: [{ name: "name", kind: "name" },
     { ...amount("nominal", "ml", grams.NOMINAL), label: "nominal_ml" }] },
   tare: { fields: [product, { name: "day", kind: "day", label: "from" },
-    weight("tare", 0, grams.MAX_TARE)], hint: "tareReach" },
+    weight("tare", 0, grams.MAX_TARE), reason], hint: "tareReach" },
   open: { fields: [{ name: "batch", kind: "name" }, product] },
   open_at: { fields: [{ name: "batch", kind: "name" }, product,
     amount("density", "g/l", grams.DENSITY)] },
   end: { fields: [batch], look: lookAtBatch },
   draw: { fields: [batch, mode, drawn] },
   second: { fields: [batch, drawn] },
-  close: { fields: [batch], look: lookAtBatch },
-  void: { fields: [pack], look: lookAtPack },
+  close: { fields: [batch, reason], look: lookAtBatch },
+  void: { fields: [pack, reason], look: lookAtPack },
   measure: { fields: [pack, gross, empty], look: lookAtGross },
 };
 

@@ -16,7 +16,7 @@ const PAGES = new Map(Object.entries({
   desk: () => import("./desk.js"),
   sheet: () => import("./sheet.js"),
   reports: soon("reports"),
-  evidence: soon("evidence"),
+  evidence: () => import("./evidence.js"),
   search: soon("search"),
 }));
 // The name that a page had before.

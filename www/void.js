@@ -1,6 +1,6 @@
 // The void of the last pack of a lane: a dialog that asks for a reason, and sends the act. The book
-// keeps that the pack is voided; the reason goes with the act and stays among what this browser was
-// told.
+// keeps that the pack is voided; the reason goes with the act, and the archive keeps it with the
+// person.
 
 import { addWords, say } from "./words.js";
 import { count, grams } from "./numbers.js";
@@ -13,8 +13,8 @@ addWords({
   voidTitle: ["Void pack {pack}?", "Packung {pack} streichen?"],
   voidHint: ["{net} g, passed. It then no longer counts, and stays in the book as voided. Why?",
     "{net} g, durchgelassen. Sie zählt dann nicht mehr und bleibt als gestrichen im Buch. Warum?"],
-  voidKept: ["The reason stays in this browser; the book has the void.",
-    "Der Grund bleibt in diesem Browser; das Buch hat die Streichung."],
+  voidKept: ["The book has the void; the reason is kept by the archive, with your name.",
+    "Das Buch hat die Streichung; den Grund hält das Archiv fest, mit Ihrem Namen."],
   torn: ["The bag is torn", "Der Beutel ist gerissen"],
   twice: ["It was weighed twice", "Sie wurde doppelt gewogen"],
   label: ["Wrong label or date", "Falsches Etikett oder Datum"],

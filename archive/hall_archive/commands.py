@@ -30,6 +30,8 @@ from hall_archive.store import Store
 from hall_archive.witness import Witness, utc_text
 
 log = logging.getLogger("hall-archive")
+# The status of a follower that ended by a fault of its own: it is begun again.
+ENDED_EARLY = 3
 
 
 def book_of(settings: Settings, word: str) -> BookSettings:
@@ -69,11 +71,12 @@ def follow(settings: Settings, word: str, _: str) -> int:
     try:
         beside(settings, book, engine, following, thread)
     finally:
+        was_asked = following.stop.is_set()
         following.stop.set()
         thread.join()
     if following.other:
         raise OtherBook(following.other)
-    return 0
+    return 0 if was_asked else ENDED_EARLY
 
 
 def beside(
@@ -84,7 +87,7 @@ def beside(
     kept = Store(engine, book.hall, book.name)
     reader = settings.reader()
     people = People(kept, settings.front) if settings.front else None
-    witnessing = Witnessing(kept, Witness(settings.witness(book)), reader)
+    witnessing = witnessing_of(settings, book, kept, reader)
     checking = Checking(kept, Books(store.open_engine(settings.database)), reader)
     said, next_witness = Said(), 0.0
     while thread.is_alive() and not following.stop.wait(PEOPLE_EVERY):
@@ -96,11 +99,25 @@ def beside(
                 people.look()
             if closed or time.monotonic() >= next_witness:
                 next_witness = time.monotonic() + WITNESS_EVERY
-                witnessing.look(bool(closed), moment)
-            checking.look(moment)
+                if witnessing:
+                    witnessing.look(bool(closed), moment)
+                checking.look(moment)
             said.good("goes on")
-        except (Unkept, OSError, witness.Differs) as fault:
+        except (Unkept, OSError) as fault:
             said.fault(f"{book.name}: {fault}")
+
+
+def witnessing_of(
+    settings: Settings, book: BookSettings, kept: Store, reader: Reader
+) -> Witnessing | None:
+    """Keeps the witness of a book; none, and an alarm, where its file isn't chained any more."""
+    path = settings.witness(book)
+    try:
+        return Witnessing(kept, Witness(path), reader)
+    except witness.Differs as fault:
+        kept.alarm(time.time_ns() // 1_000_000, f"{path}: {fault}")
+        log.error("%s: %s: no line is added", path, fault)
+        return None
 
 
 class Rest:
@@ -147,14 +164,19 @@ def take(settings: Settings, word: str, _: str) -> int:
 
 def compare_rows(kept: Store, reader: Reader, upto: int) -> None:
     """OtherBook where the book's first rows aren't those that were taken."""
+    if why := first_other(kept, reader, upto):
+        refuse(kept, why)
+
+
+def first_other(kept: Store, reader: Reader, upto: int) -> str:
+    """What of the book's first rows isn't as it was taken; nothing where all of it is."""
     lines = checks.lines_of(reader.ask(kept.name, "acts"))
-    row = 0
     ours = map(line_of, kept.entries(upto=upto))
+    row = 0
     for row, (one, other) in enumerate(zip(ours, lines, strict=False), 1):
         if f"{one}\n" != other:
-            refuse(kept, f"has another row {row} than was taken: {other[:80].rstrip()}")
-    if row < upto:
-        refuse(kept, f"has {row} rows, {upto} were taken")
+            return f"has another row {row} than was taken: {other[:80].rstrip()}"
+    return f"has {row} rows, {upto} were taken" if row < upto else ""
 
 
 def refuse(kept: Store, why: str) -> None:
@@ -177,9 +199,9 @@ def found_book(settings: Settings, word: str) -> tuple[Books, int, BookSettings]
 
 def register(settings: Settings, word: str, _: str) -> int:
     books, number, _book = found_book(settings, word)
-    out = io.TextIOWrapper(sys.stdout.buffer, "ascii", newline="", write_through=False)
-    out.writelines(books.register(number))
-    out.flush()
+    sys.stdout.flush()
+    sys.stdout.buffer.writelines(line.encode("ascii") for line in books.register(number))
+    sys.stdout.buffer.flush()
     return 0
 
 

@@ -166,24 +166,27 @@ class Witnessing:
 
 
 class Checking:
-    """Holds each closed batch against the book."""
+    """Holds each closed batch against the book: once the book's file has its closing."""
 
     def __init__(self, store: Store, books: Books, reader: Reader) -> None:
         self.store = store
         self.books = books
         self.reader = reader
         self.due: list[str] = []
+        self.said = Said()
 
     def look(self, moment: int) -> None:
+        """Compares what is due. Where the program doesn't answer the rest waits too."""
         for name in list(self.due):
             try:
                 batch = self.books.batch(self.store.book, name)
                 if batch is None or not checks.compare_batch(self.reader, self.store.name, batch):
                     continue
+                self.said.good(f"{self.store.name}: batches are compared again")
             except checks.Differs as fault:
                 self.store.alarm(moment, str(fault))
                 log.error("%s: %s", self.store.name, fault)
             except NotRead as fault:
-                log.warning("%s", fault)
-                continue
+                self.said.fault(f"{fault}: closed batches wait to be compared")
+                return
             self.due.remove(name)

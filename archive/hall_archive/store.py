@@ -2,6 +2,7 @@
 and `questions` alone import sqlalchemy."""
 
 import io
+import logging
 import os
 from collections.abc import Iterator, Sequence
 from contextlib import contextmanager
@@ -35,7 +36,7 @@ OPEN_WEIGHINGS = """
     ORDER BY p.row"""
 
 
-def open_engine(url: str, writes: bool = False) -> Any:
+def open_engine(url: Any, writes: bool = False) -> Any:
     """The database of a URL (`sqlite:////var/lib/hall-archive/archive.db`, `postgresql:///hall`).
     What writes takes its lock at once, so that two writers never meet half way."""
     engine = create_engine(url, future=True, pool_pre_ping=True)
@@ -57,6 +58,7 @@ def open_engine(url: str, writes: bool = False) -> Any:
 
 def migrate(engine: Any) -> None:
     """Brings the tables to their newest form."""
+    logging.getLogger("alembic").setLevel(logging.WARNING)
     config = Config()
     config.set_main_option("script_location", MIGRATIONS)
     with engine.begin() as link:
@@ -79,6 +81,8 @@ class Store:
 
     def __init__(self, engine: Any, hall: str, name: str) -> None:
         self.engine = engine
+        # what reads never takes a writer's lock, however long it reads
+        self.reads = open_engine(engine.url)
         self.hall = hall
         self.name = name
         self.is_postgres = engine.dialect.name == "postgresql"
@@ -102,7 +106,7 @@ class Store:
 
     def cursor(self) -> Cursor:
         table = schema.book.c
-        with reaching(self.engine.connect()) as link:
+        with reaching(self.reads.connect()) as link:
             upto, asked, clock, refused = link.execute(
                 select(table.upto, table.asked, table.clock, table.refused).where(
                     table.id == self.book
@@ -128,7 +132,7 @@ class Store:
     def closed(self) -> set[str]:
         """The names of the batches that are closed."""
         table = schema.batch.c
-        with reaching(self.engine.connect()) as link:
+        with reaching(self.reads.connect()) as link:
             rows = link.execute(
                 select(table.name).where(table.book == self.book, table.state == "closed")
             )
@@ -155,7 +159,7 @@ class Store:
         table = schema.act.c
         of = (table.book == self.book, table.row > after, table.row <= upto)
         wanted = select(table.line).where(*of)
-        with reaching(self.engine.connect()) as link:
+        with reaching(self.reads.connect()) as link:
             lines = [line for (line,) in link.execute(wanted.order_by(table.row))]
         return map(read_line, lines)
 
@@ -166,7 +170,7 @@ class Store:
         upto: int = MAX_ROWS,
     ) -> Iterator[Entry]:
         """Weighings, in order, a chunk at a time."""
-        with reaching(self.engine.connect()) as link:
+        with reaching(self.reads.connect()) as link:
             found = link.execution_options(stream_results=True, yield_per=CHUNK)
             for row, by, lane, gross, prior, signal in found.exec_driver_sql(
                 statement % (self.book, after, upto)
@@ -236,7 +240,7 @@ class Store:
 
     def place(self, path: str) -> Place:
         table = schema.front_log.c
-        with reaching(self.engine.connect()) as link:
+        with reaching(self.reads.connect()) as link:
             found = link.execute(
                 select(table.file, table.place).where(table.path == self.log(path))
             ).one_or_none()
@@ -279,7 +283,7 @@ class Store:
     def act_at(self, row: int) -> Entry | None:
         """The act of a row; None where the row is a weighing or isn't here."""
         table = schema.act.c
-        with reaching(self.engine.connect()) as link:
+        with reaching(self.reads.connect()) as link:
             found = link.execute(
                 select(table.line).where(table.book == self.book, table.row == row)
             ).scalar()

@@ -1,0 +1,133 @@
+// Evidence beside the book: how a tare was determined, that a scale was checked, a density, and
+// what measuring may be wrong by. The archive keeps each record with its person and hour, chained to
+// the one before. Without an archive the page says so.
+
+import { addWords, say } from "./words.js";
+import { FIELDS, KINDS, readEntry } from "./entered.js";
+import { deskChoice } from "./mydesk.js";
+import { grams, spellDay } from "./evidencewords.js";
+import { isReady, makeSaid, sendAct, tell } from "./acts.js";
+import { make, notice, table, tag } from "./page.js";
+import { Missing, reach } from "./office.js";
+import { soonPage } from "./soon.js";
+
+const SIGNS = { good: ["ok", "pass"], more: ["warn", "early"], bad: ["alarm", "reject"] };
+const CREATED = 201;
+
+addWords({
+  newest: ["Newest of each", "Das Neueste von jedem"],
+  enterEvidence: ["Enter evidence", "Nachweis eintragen"],
+  keepEvidence: ["Keep it", "Festhalten"],
+  ofWhat: ["Of what: a product, or the number of a lane",
+    "Wovon: eine Ware, oder die Nummer einer Linie"],
+  noEvidence: ["No evidence yet. Begin with the scales.",
+    "Noch keine Nachweise. Mit den Waagen beginnen."],
+  overdue: ["To be seen to", "Zu erledigen"],
+  cantRead: ["This can't be read: {field}.", "Das lässt sich nicht lesen: {field}."],
+});
+
+async function ask(path, options) {
+  const answer = await reach(`archive/${path}`, options);
+  if (![200, CREATED, 403, 422].includes(answer.status)) throw new Missing(String(answer.status));
+  return { status: answer.status, said: answer.status === 403 ? {} : JSON.parse(answer.text) };
+}
+
+const post = (kind, subject, body) => ask(`evidence/${kind}/${encodeURIComponent(subject)}`,
+  { method: "POST", headers: { "Content-Type": "application/json" }, body: JSON.stringify(body) });
+
+const resultTag = ({ result }) => tag(...SIGNS[result], say(`result.${result}`));
+
+function newestTable(records) {
+  if (records.length === 0) return make("p", {}, say("noEvidence"));
+  const heads = ["kind", "subject", "when", "who", "result"].map((name) => say(`head.${name}`));
+  return table("", heads, records.map((one) => [say(`kind.${one.kind}`), one.subject,
+    spellDay(one.moment), one.person, resultTag(one.body)]));
+}
+
+function fieldOf(kind, [name, , isLong]) {
+  const id = `e-${kind}-${name}`;
+  const input = make(isLong ? "textarea" : "input",
+    { id, name, autocomplete: "off", rows: isLong ? 10 : null, className: "e-field" });
+  return make("p", { className: "field" }, make("label", { for: id }, say(`enter.${name}`)), input);
+}
+
+// A record that came of what was typed; of a good tare the act is offered.
+function outcome(said, record) {
+  const { kind, subject, body, digest } = record;
+  const figures = { mean: body.mean, spread: body.deviation, limit: body.limit, used: body.used,
+    density: body.density };
+  const spelled = Object.entries(figures).map(([name, value]) => [name, grams(value)]);
+  const words = say(`told.${kind}`, Object.fromEntries(spelled));
+  const result = say(`result.${body.result}`);
+  tell(said, body.result === "good" ? "done" : "refused", `${result}. ${words}`);
+  if (kind !== "tare" || body.result !== "good") return;
+  const day = new Date().toISOString().slice(0, 10);
+  const button = make("button", { type: "button" }, say("enterTare", { tare: grams(body.tare) }));
+  button.addEventListener("click", async () => {
+    if (!isReady(said)) return;
+    button.remove();
+    const reason = `evidence ${digest.slice(0, 16)}`;
+    await sendAct(said, { act: "tare", product: subject, day, tare: body.tare, reason });
+  });
+  said.after(button);
+}
+
+function formOf(kind, refresh) {
+  const said = makeSaid();
+  const subject = make("input", { id: `e-${kind}`, name: "subject", autocomplete: "off",
+    list: kind === "scale" ? null : "products" });
+  const form = make("form", { noValidate: true, "aria-label": say(`kind.${kind}`) },
+    make("p", { className: "field" }, make("label", { for: `e-${kind}` }, say("ofWhat")), subject),
+    FIELDS[kind].map((field) => fieldOf(kind, field)),
+    make("p", { className: "acts" }, make("button", {}, say("keepEvidence"))), said);
+  form.addEventListener("submit", async (event) => {
+    event.preventDefault();
+    // what an earlier record offered
+    for (const offer of form.querySelectorAll("button[type=button]")) offer.remove();
+    const texts = FIELDS[kind].map(([name]) => [name, form.elements[name].value]);
+    const { faulty, body } = readEntry(kind, subject.value, Object.fromEntries(texts));
+    if (faulty) {
+      form.elements[faulty].focus();
+      return void tell(said, "refused", say("cantRead", { field: say(`enter.${faulty}`) }));
+    }
+    const answer = await post(kind, subject.value.trim(), body).catch(() => null);
+    if (answer?.status === CREATED) {
+      outcome(said, answer.said);
+      await refresh();
+    } else {
+      const why = answer ? say("notKept", { why: answer.said.detail ?? 403 }) : say("noArchive");
+      tell(said, "refused", why);
+    }
+  });
+  return form;
+}
+
+function choice(forms) {
+  const select = make("select", { id: "e-kind" },
+    KINDS.map((kind) => make("option", { value: kind }, say(`kind.${kind}`))));
+  const show = () => KINDS.forEach((kind) => { forms[kind].hidden = kind !== select.value; });
+  select.addEventListener("change", show);
+  show();
+  return make("p", { className: "field" },
+    make("label", { for: "e-kind" }, say("enterEvidence")), select);
+}
+
+export async function build(section) {
+  const first = await ask("newest").catch(() => null);
+  if (!first) return void soonPage("evidence").build(section);
+  const [newest, due] = [make("div", { className: "scroll" }), make("div", { role: "status" })];
+  const show = async () => {
+    newest.replaceChildren(newestTable((await ask("newest")).said));
+    const { evidence, books } = (await ask("alarms")).said;
+    const said = [...evidence, ...books.map(({ book, what }) => `${book}: ${what}`)];
+    due.replaceChildren(...(said.length ? [notice("alarm", "warn", say("overdue"),
+      make("ul", {}, said.map((text) => make("li", {}, text))))] : []));
+  };
+  const forms = Object.fromEntries(KINDS.map((kind) => [kind, formOf(kind, show)]));
+  section.append(make("h1", {}, say("evidence")), due, make("section", { className: "panel" },
+    make("h2", {}, say("newest")), newest), make("section", { className: "panel" },
+    deskChoice("e-desk"), choice(forms), Object.values(forms)));
+  await show();
+}
+
+export const refresh = async () => (await import("./office.js")).summary();
