@@ -109,8 +109,13 @@ returns-in-None-clause-explained g c =
     (c.len.result - c.len-held.result) (omega (arith, c.loop-earlier-test.true))
     (c.in_ok-follow_head.ensures.reads stands.middle stands.at_head)
     (nothing_found now next _ c.in-None.is c.in_ok-next.ensures.found) (omega arith) grown
-    (omega (arith, c.len.ensures, c.len-held.ensures, grown,
-    begins_short held between c.loop-earlier.invariant.goes.begins))
+    (omega (
+      arith,
+      c.len.ensures,
+      c.len-held.ensures,
+      grown,
+      begins_short held between c.loop-earlier.invariant.goes.begins,
+    ))
 
 pub returns-in-None-clause-goes : goal.returns-in-None-clause-goes
 returns-in-None-clause-goes g c =
@@ -185,8 +190,12 @@ returns-in_err-see_end-clause-explained g c =
     (c.in_err-see_end.ensures.explained stands.middle between rows (length rows - length between)
     (c.in_ok-follow_head-2.ensures.reads stands.middle stands.at_head) (omega (arith, grown)))
     c.in_err-see_end.ensures.behind
-    (inr (omega (arith, c.requires.some, c.loop-earlier-test.false,
-    c.loop-earlier.auto._earlier-end))))
+    (inr (omega (
+      arith,
+      c.requires.some,
+      c.loop-earlier-test.false,
+      c.loop-earlier.auto._earlier-end,
+    ))))
 
 pub returns-in_err-see_end-clause-goes : goal.returns-in_err-see_end-clause-goes
 returns-in_err-see_end-clause-goes g c =
@@ -214,8 +223,13 @@ returns-clause-explained g c =
     (c.in_ok-follow_head-2.ensures.reads stands.middle stands.at_head) (omega (arith, grown)))
     (λ is. absurd cc)
     (λ all is. absurd cc)
-    (omega (arith, c.len-2.ensures, c.len-held.ensures, grown,
-    begins_short held between c.loop-earlier.invariant.goes.begins))
+    (omega (
+      arith,
+      c.len-2.ensures,
+      c.len-held.ensures,
+      grown,
+      begins_short held between c.loop-earlier.invariant.goes.begins,
+    ))
 
 pub returns-clause-goes : goal.returns-clause-goes
 returns-clause-goes g c =
