@@ -181,9 +181,9 @@ fn are_rows(book: &Book, after: u32, before: u32, rows: &[ActView]) -> bool {
     told && shipped
 }
 
-// Whether the rows behind the first eight are told as they were accepted, and none behind all.
-fn are_last_rows(book: &Book, batch: Name) -> bool {
-    let row_of = |row, act| ActView {
+// A row of the hall itself as it is told.
+fn row_of(row: u32, act: Act) -> ActView {
+    ActView {
         row,
         entry: Entry {
             by: 0,
@@ -193,7 +193,11 @@ fn are_last_rows(book: &Book, batch: Name) -> bool {
             signal: None,
         },
         verdict: None,
-    };
+    }
+}
+
+// Whether the rows behind the first eight are told as they were accepted, and none behind all.
+fn are_last_rows(book: &Book, batch: Name) -> bool {
     let mode = Mode::Keep;
     let rows = [
         row_of(9, Act::EndRun { batch }),
