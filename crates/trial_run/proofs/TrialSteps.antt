@@ -270,7 +270,7 @@ module _ {D : Type 0} (g : disk.Ghosts D) where
             drawn = last;
             is = refl;
           });
-          may = tt;
+          may = refl;
         };
         goes = goes_on g done (Err NoMemory) old.store new.store new.store asks.goes
             (stays g (Err NoMemory) new.store refl (λ finished. absurd (cc (finished))));
