@@ -153,19 +153,32 @@ const CASES: [Case; 22] = [
     },
 ];
 
+// Appends a shipment of some rows, after so many of them.
+fn push_shipment(alloc: Global, bytes: &mut Vec<u8>, rows: &[Entry], after: u32) {
+    let (_cut, one) = shipped(alloc, rows, after, &[]);
+    let _ = bytes.extend_from_slice(&one);
+}
+
+// Puts another byte at a place, where one is to be changed.
+fn change(bytes: &mut Vec<u8>, changed: Option<(usize, u8)>) {
+    let Some((place, byte)) = changed else {
+        return;
+    };
+    if let Some(there) = bytes.get_mut(place) {
+        *there = byte;
+    }
+}
+
 // The bytes of the shipments of a case.
 fn bytes_of(alloc: Global, entries: &[Entry], case: &Case) -> Vec<u8> {
     let mut bytes = Vec::new(alloc);
     for (rows, after) in case.sent {
-        let (_, one) = shipped(alloc, entries.get(..*rows).unwrap_or(&[]), *after, &[]);
-        let _ = bytes.extend_from_slice(&one);
-    }
-    bytes.truncate(case.count);
-    if let Some((place, byte)) = case.changed {
-        if let Some(there) = bytes.get_mut(place) {
-            *there = byte;
+        if let Some(first) = entries.get(..*rows) {
+            push_shipment(alloc, &mut bytes, first, *after);
         }
     }
+    bytes.truncate(case.count);
+    change(&mut bytes, case.changed);
     bytes
 }
 
