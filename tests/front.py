@@ -144,6 +144,9 @@ def check_reasons(front):
     """Each text that a person may type goes through, and stands in the line of the act with its
     person and row; a refused act has a line too. No line has a password."""
     anna = Person(front, "anna")
+    # goes on behind what the desk asked in the checks before
+    anna.requests[101] = max((request for desk, request, _ in front.told.values() if desk == 101),
+                             default=0)
     acts = []
     for place, reason in enumerate(REASONS):
         members = {"act": "product", "name": f"r{place}", "nominal": 100000}
@@ -335,7 +338,7 @@ def main():
     check_sites()
     front.start()
     for check in (check_passwords, check_transport, check_capitals, check_origins, check_paths,
-                  check_desks, check_reasons, check_bodies, check_slow, check_many):
+                  check_desks, check_bodies, check_slow, check_many, check_reasons):
         check(front)
         print(f"front: {check.__name__} holds", flush=True)
     check_pages(front, program, book)
