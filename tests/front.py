@@ -94,9 +94,17 @@ def check_paths(front):
         expect(anna.send(method, path), status, f"{method} {path}")
 
 
+def anna_again(front):
+    """Anna, who goes on behind what her desk asked in the checks before."""
+    anna = Person(front, "anna")
+    anna.requests[101] = max((request for desk, request, _ in front.told.values() if desk == 101),
+                             default=0)
+    return anna
+
+
 def check_pages(front, program, book):
     """A page of 128 rows with names of 32 bytes comes through whole."""
-    anna = Person(front, "anna")
+    anna = anna_again(front)
     juice = "j" * 32
     expect(anna.act(101, act="product_ml", name=juice, nominal=1000000), 200, "juice")
     rows = int(anna.send("GET", "/hall/summary").fields["book-row"])
@@ -143,10 +151,7 @@ REASONS = [
 def check_reasons(front):
     """Each text that a person may type goes through, and stands in the line of the act with its
     person and row; a refused act has a line too. No line has a password."""
-    anna = Person(front, "anna")
-    # goes on behind what the desk asked in the checks before
-    anna.requests[101] = max((request for desk, request, _ in front.told.values() if desk == 101),
-                             default=0)
+    anna = anna_again(front)
     acts = []
     for place, reason in enumerate(REASONS):
         members = {"act": "product", "name": f"r{place}", "nominal": 100000}
