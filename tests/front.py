@@ -175,7 +175,9 @@ def check_reasons(front):
     need(all(line["person"] == "anna" and line["book"] == BOOK and float(line["time"]) > 0
              and float(line["took"]) >= 0 for line in lines if '"reason"' in line["body"]),
          "person, book and times")
-    need([line["status"] for line in lines[-2:]] == ["409", "401"], "the last two are refused")
+    last = max(place for place, line in enumerate(lines) if '"reason"' in line["body"])
+    after = [line["status"] for line in lines[last + 1 :]]
+    need("409" in after and "401" in after, f"behind the reasons are {after}")
 
 
 def check_desks(front):
