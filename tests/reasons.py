@@ -94,7 +94,8 @@ ROWS = [
     (["prove"], b"paper 1", "bad line 1", "bad line 1, paper 1: it has no LF"),
     (["prove"], b"papier 1\n", "bad line 1",
      "bad line 1, papier 1: no line of a paper begins so"),
-    (["follow"], b"x\n", "bad line 0", None),
+    (["follow"], b"x\n", "bad line 0",
+     "bad line 0: shipment 1: it is cut: 2 bytes of its head came, of 16"),
     (["run"], b"day 2025-03-03\n", "batches running 0 ended 0 drawn 0 closed 0", None),
 ]
 
