@@ -1,6 +1,6 @@
 use batch_reports::{answer_text, refusal_text};
 use book_core::{Book, BookError};
-use book_words::{Act, Ask, Name, Question, Unit, Want};
+use book_words::{Act, Ask, Name, Unit, Want};
 use std::alloc::{AllocError, Global};
 use std::fmt;
 use std::test::Fail;
@@ -91,69 +91,5 @@ fn a_day_out_of_its_range(rt: HostRuntime) -> Result<(), Fail> {
     let mut text = Vec::new(alloc);
     print_days(alloc, rice, &mut text)?;
     assert_eq!(rt; text.as_slice(), TEXT);
-    Ok(())
-}
-
-// Appends what a question is answered.
-fn print_told(book: &Book, question: &Question, text: &mut Vec<u8>) -> Result<(), AllocError> {
-    match book.look(question) {
-        Ok(answered) => answer_text(&answered, text),
-        Err(_) => Err(AllocError),
-    }
-}
-
-// Appends the row behind the second, in which the batch A is opened, as it is told and as it is
-// shipped; and what is shipped behind all rows. No other function owns a book.
-fn print_pages(
-    alloc: Global,
-    product: Name,
-    batch: Name,
-    text: &mut Vec<u8>,
-) -> Result<(), AllocError> {
-    let acts = [
-        Act::NewDay { day: 20_150 },
-        Act::PutProduct {
-            name: product,
-            nominal: 250_000,
-            unit: Unit::Mass,
-        },
-        Act::OpenBatch {
-            batch,
-            product,
-            density: 0,
-        },
-    ];
-    let mut book = Book::new(alloc, 10);
-    let mut rows = Vec::new(alloc);
-    let mut printed = print_answers(&mut book, &acts, &mut rows);
-    for question in [
-        Question::Rows { after: 2 },
-        Question::Shipment { after: 2 },
-        Question::Shipment { after: 9 },
-    ] {
-        printed = printed.and(print_told(&book, &question, text));
-    }
-    let _ = book.rows();
-    printed
-}
-
-// The line, the head and the row as docs/FORMATS.md has them, and the head of no rows.
-const PAGES: &[u8] = b"\
-3 ok\tscript\topen A rice250\n\
-AQHSHIP2\x03\0\0\0\x02\0\0\0\
-\x01\x04\x03\0\0\0\0\0\0\0\0\0\0\0\
-\x01A\0\0\0\0\0\0\0\0\0\0\0\0\0\0\0\0\0\0\0\0\0\0\0\0\0\0\0\0\0\0\0\
-\x07rice250\0\0\0\0\0\0\0\0\0\0\0\0\0\0\0\0\0\0\0\0\0\0\0\0\0\
-\0\0\0\0\0\0\0\0\0\0\0\0\0\0\0\0\
-AQHSHIP2\x03\0\0\0\x03\0\0\0";
-
-#[test]
-fn pages_of_a_book(rt: HostRuntime) -> Result<(), Fail> {
-    let alloc = rt.alloc();
-    let rice = Name::new(b"rice250".as_slice()).ok_or(fmt::Error)?;
-    let batch = Name::new(b"A".as_slice()).ok_or(fmt::Error)?;
-    let mut text = Vec::new(alloc);
-    print_pages(alloc, rice, batch, &mut text)?;
-    assert_eq!(rt; text.as_slice(), PAGES);
     Ok(())
 }
