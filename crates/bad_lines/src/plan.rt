@@ -97,16 +97,26 @@ fn number_of(lane: &Value) -> Option<i64> {
 // What is wrong with a lane.
 fn fault_of_lane(lane: &Value) -> Option<&'static str> {
     match number_of(lane) {
-        Some(number) if 1 <= number && number <= MAX_LANE => fault_of_batch(lane.get("batch")),
+        Some(number) if 1 <= number && number <= MAX_LANE => {
+            fault_of_batch(lane.get("batch"), lane.get("changes"))
+        }
         _ => Some("its number isn't 1 to 16"),
     }
 }
 
-// What is wrong with the batch of a lane.
-fn fault_of_batch(batch: Option<&Value>) -> Option<&'static str> {
-    let Some(batch) = batch else {
-        return Some("it has no batch");
-    };
+// What is wrong with the batch of a lane, which it has or changes.
+fn fault_of_batch(batch: Option<&Value>, changes: Option<&Value>) -> Option<&'static str> {
+    match (batch, changes) {
+        (Some(batch), None) => fault_of_name(batch),
+        (None, Some(changes)) if changes.as_bool() == Some(true) => None,
+        (None, Some(_)) => Some("its changes isn't true"),
+        (Some(_), Some(_)) => Some("it has both batch and changes"),
+        (None, None) => Some("it has no batch, nor changes = true"),
+    }
+}
+
+// What is wrong with the name of a batch.
+fn fault_of_name(batch: &Value) -> Option<&'static str> {
     match batch.as_str() {
         Some(name) if !name.is_empty() && name.len() <= MAX_NAME => None,
         _ => Some("its batch isn't a name of 1 to 32 bytes"),

@@ -51,12 +51,12 @@ reserve_within document =
     said_within 0 (whole_number 0 MAX_ROWS) (get_member (codes "reserve") document)
     (IsBetween 0 MAX_ROWS) (omega arith, omega arith) (whole_within 0 MAX_ROWS)
 
-lane_numbered : (number : Option ℕ) (batch : Option Name) → IfSome number (IsBetween 1 MAX_LANE)
-    → IfSome (option_and_then (λ n. option_map
-    (λ name. record { number = n; batch = name }) batch) number) IsNumbered
+lane_numbered : (number : Option ℕ) (batch : Option (Option Name))
+    → IfSome number (IsBetween 1 MAX_LANE) → IfSome (option_and_then (λ n. option_map
+    (λ said. record { number = n; batch = said }) batch) number) IsNumbered
 lane_numbered None batch within = tt
 lane_numbered (Some n) None within = tt
-lane_numbered (Some n) (Some name) within = within
+lane_numbered (Some n) (Some said) within = within
 
 lanes_numbered : (lane : Option PlannedLane) (lanes : Option (List PlannedLane))
     → IfSome lane IsNumbered → IfSome lanes (AllByRecursion IsNumbered)

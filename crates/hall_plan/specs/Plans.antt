@@ -4,7 +4,7 @@ use Rattle.std.specs.Prelude.{List, [], ◌∷◌, length, codes, if◌then◌el
 use Rattle.std.specs.Prelude.{Option, Some, None, option_map}
 use Rattle.std.specs.List.{list_any}
 use Rattle.std.specs.Option.{option_and_then}
-use Rattle.toml.specs.Data.{Data, Items, no_items, item, Members}
+use Rattle.toml.specs.Data.{Data, boolean, Items, no_items, item, Members}
 use Rattle.toml.specs.Data.{get, get_member, as_str, as_integer, as_array}
 use Rattle.hall_limits.specs.declared.TheConstants.{MAX_LANE, MAX_ROWS}
 use Rattle.book_words.specs.declared.name.Name.{Name}
@@ -24,9 +24,14 @@ in_range least greatest (negsuc _) = None
 abbrev pub whole_number : ℕ → ℕ → Data → Option ℕ
 whole_number least greatest value = option_and_then (in_range least greatest) (as_integer value)
 
--- a text that is a name
-abbrev pub batch_name : Data → Option Name
-batch_name value = option_and_then name_of (as_str value)
+-- a text that is a name: the one batch of a lane
+abbrev pub batch_name : Data → Option (Option Name)
+batch_name value = option_map Some (option_and_then name_of (as_str value))
+
+-- `true`: that a lane has no one batch
+abbrev pub changes_said : Data → Option (Option Name)
+changes_said (boolean true) = Some None
+changes_said _ = None
 
 -- what the value at a key says, and this where there is none
 abbrev pub said_or : {A : Type 0} → A → (Data → Option A) → Option Data → Option A
@@ -39,11 +44,17 @@ said_or absent read (Some value) = read value
 abbrev pub lane_number : Data → Option ℕ
 lane_number fields = option_and_then (whole_number 1 MAX_LANE) (get (codes "number") fields)
 
--- the batch of a lane: at the key `batch` of its table
-abbrev pub lane_batch : Data → Option Name
-lane_batch fields = option_and_then batch_name (get (codes "batch") fields)
+-- a lane has one batch, or changes it: just one of these is said
+abbrev pub one_said : Option Data → Option Data → Option (Option Name)
+one_said (Some batch) None = batch_name batch
+one_said None (Some changes) = changes_said changes
+one_said _ _ = None
 
--- what a table plans for one lane: it has both
+-- the batch of a lane, none where it changes it: at the keys `batch` and `changes` of its table
+abbrev pub lane_batch : Data → Option (Option Name)
+lane_batch fields = one_said (get (codes "batch") fields) (get (codes "changes") fields)
+
+-- what a table plans for one lane: it has its number, and one of the others
 abbrev pub planned_lane : Data → Option PlannedLane
 planned_lane fields = option_and_then (λ number. option_map
     (λ batch. record { number = number; batch = batch })

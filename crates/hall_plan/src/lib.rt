@@ -1,5 +1,5 @@
-//! Plans: the script that prepares a hall, and the batch that each of its lanes is to weigh, read
-//! from a document in TOML.
+//! Plans: the script that prepares a hall, and the batch that each of its lanes is to weigh, or that
+//! it changes, read from a document in TOML.
 #![tactic(auto)]
 
 mod document;

@@ -24,8 +24,8 @@ pub struct Plan {
 pub struct PlannedLane {
     /// The number of the lane: 1 to `MAX_LANE`.
     pub number: u8,
-    /// The batch that it weighs.
-    pub batch: Name,
+    /// The batch that it weighs; `None` where its cell says the batches, one after another.
+    pub batch: Option<Name>,
 }
 
 /// Why a plan wasn't read.

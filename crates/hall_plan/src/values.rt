@@ -1,8 +1,9 @@
 ghost use Rattle.std.specs.Prelude.{◌≡◌, ◌≤◌, IfSome, option_map, option_copied};
 ghost use Rattle.toml.specs.Data.{get_member};
 ghost use Rattle.toml.specs.View.{view, table_view};
-ghost use Rattle.hall_plan.specs.Plans.{batch_name, in_range, lane_batch, lane_number};
-ghost use Rattle.hall_plan.specs.Plans.{planned_lane, reserve_said, setup_said, whole_number};
+ghost use Rattle.hall_plan.specs.Plans.{batch_name, changes_said, in_range, lane_batch};
+ghost use Rattle.hall_plan.specs.Plans.{lane_number, planned_lane, reserve_said, setup_said};
+ghost use Rattle.hall_plan.specs.Plans.{whole_number};
 
 use crate::types::PlannedLane;
 use book_words::Name;
@@ -55,20 +56,34 @@ fn lane_number(table: &Value) -> Option<u8>
     Some(number as u8)
 }
 
-// The batch of a table.
-fn lane_batch(table: &Value) -> Option<Name>
+// The batch of a table; `None` inside where its lane changes it. A table says one of them.
+fn lane_batch(table: &Value) -> Option<Option<Name>>
     ensures { result ≡ lane_batch (view table.now) }
 {
-    let value = table.get("batch")?;
-    batch_name(value)
+    match (table.get("batch"), table.get("changes")) {
+        (Some(batch), None) => batch_name(batch),
+        (None, Some(changes)) => changes_said(changes),
+        _ => None,
+    }
 }
 
-// A text as the name of a batch.
-fn batch_name(value: &Value) -> Option<Name>
+// A text as the name of the one batch of a lane.
+fn batch_name(value: &Value) -> Option<Option<Name>>
     ensures { result ≡ batch_name (view value.now) }
 {
     let text = value.as_str()?;
-    Name::new(text.as_bytes())
+    let name = Name::new(text.as_bytes())?;
+    Some(Some(name))
+}
+
+// `true` as that a lane has no one batch.
+fn changes_said(value: &Value) -> Option<Option<Name>>
+    ensures { result ≡ changes_said (view value.now) }
+{
+    match value.as_bool() {
+        Some(true) => Some(None),
+        _ => None,
+    }
 }
 
 // An integer as a number of a range.

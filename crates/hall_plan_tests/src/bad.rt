@@ -21,7 +21,7 @@ static VALUES: [&str; 15] = [
 ];
 
 // What is said of one lane.
-static LANES: [&str; 19] = [
+static LANES: [&str; 30] = [
     "",
     "lane = []",
     "lane = [1]",
@@ -41,6 +41,17 @@ static LANES: [&str; 19] = [
     "[[lane]]\nnumber = 1\nbatch = 1",
     "[[lane]]\nnumber = 1\nbatch = ''",
     "[[lane]]\nnumber = 1\nbatch = '0123456789abcdef0123456789abcdefg'",
+    "[[lane]]\nnumber = 1\nbatch = true",
+    "[[lane]]\nnumber = 1\nbatch = 'A'\nchanges = true",
+    "[[lane]]\nnumber = 1\nbatch = 'A'\nchanges = false",
+    "[[lane]]\nnumber = 1\nbatch = 'A'\nchanges = 'B'",
+    "[[lane]]\nnumber = 1\nbatch = ''\nchanges = true",
+    "[[lane]]\nnumber = 1\nchanges = false",
+    "[[lane]]\nnumber = 1\nchanges = 'true'",
+    "[[lane]]\nnumber = 1\nchanges = 1",
+    "[[lane]]\nnumber = 1\nchanges = [true]",
+    "[[lane]]\nnumber = 1\nCHANGES = true",
+    "[[lane]]\nchanges = true",
 ];
 
 // What is said of two lanes.

@@ -2,12 +2,12 @@ use hall_plan::{PlannedLane, read_plan};
 use std::alloc::Global;
 
 // A document, and what it says: the setup, the rows that room is made for, and of each lane its
-// number and its batch.
+// number and its batch, none where it changes it.
 type Row = (
     &'static str,
     &'static str,
     u32,
-    &'static [(u8, &'static str)],
+    &'static [(u8, Option<&'static str>)],
 );
 
 const DAY_OF_RICE: &str = "\
@@ -51,8 +51,21 @@ number = 1
 batch = '0123456789abcdef0123456789abcdef'
 ";
 
-static PLANS: [Row; 12] = [
-    (DAY_OF_RICE, SETUP_OF_RICE, 1_000, &[(1, "A")]),
+const CHANGES: &str = "\
+[[lane]]
+number = 3
+changes = true
+[[lane]]
+number = 1
+batch = 'A'
+[[lane]]
+changes = true
+number = 2
+Batch = 'B'
+";
+
+static PLANS: [Row; 14] = [
+    (DAY_OF_RICE, SETUP_OF_RICE, 1_000, &[(1, Some("A"))]),
     ("", "", 0, &[]),
     ("# nothing", "", 0, &[]),
     ("setup = ''", "", 0, &[]),
@@ -65,24 +78,35 @@ static PLANS: [Row; 12] = [
         "lane = [{number = 2, batch = 'A'}, {number = 1, batch = 'A'}]",
         "",
         0,
-        &[(2, "A"), (1, "A")],
+        &[(2, Some("A")), (1, Some("A"))],
     ),
-    (OTHER_KEYS, "", 0, &[(16, "B"), (2, "A")]),
+    (OTHER_KEYS, "", 0, &[(16, Some("B")), (2, Some("A"))]),
+    (CHANGES, "", 0, &[(3, None), (1, Some("A")), (2, None)]),
+    ("lane = [{number = 1, changes = true}]", "", 0, &[(1, None)]),
     (
         LONGEST_NAME,
         "",
         0,
-        &[(1, "0123456789abcdef0123456789abcdef")],
+        &[(1, Some("0123456789abcdef0123456789abcdef"))],
     ),
 ];
 
+// Whether a lane has this batch, or changes it where there is none.
+fn has_batch(lane: &PlannedLane, wanted: Option<&str>) -> bool {
+    match (lane.batch, wanted) {
+        (Some(batch), Some(wanted)) => batch.as_bytes() == wanted.as_bytes(),
+        (None, None) => true,
+        _ => false,
+    }
+}
+
 // Whether these are the lanes.
-fn are_lanes(lanes: &[PlannedLane], wanted: &[(u8, &str)]) -> bool {
+fn are_lanes(lanes: &[PlannedLane], wanted: &[(u8, Option<&str>)]) -> bool {
     if lanes.len() != wanted.len() {
         return false;
     }
     for (lane, (number, batch)) in lanes.iter().zip(wanted) {
-        if lane.number != *number || lane.batch.as_bytes() != batch.as_bytes() {
+        if lane.number != *number || !has_batch(lane, *batch) {
             return false;
         }
     }

@@ -46,6 +46,7 @@ use Rattle.lane_worker.proofs.OpenedPacks.{packs_more, packs_none, passed_push, 
 -- only the end of the cell is `Done`
 done_by : (ending : WeighingEnd) → weighing_stop ending ≡ Done → ending ≡ ends.End
 done_by ends.End is = refl
+done_by (ends.Change batch line) is = absurd (cc)
 done_by (ends.Bad line) is = absurd (cc)
 done_by ends.Spent is = absurd (cc)
 done_by ends.CellFailed is = absurd (cc)
@@ -132,6 +133,7 @@ finishes Reached Broke was now mid lane batch work row count ending last answere
   where
     no_refusal : (e : WeighingEnd) → NamesAsked work.asked (weighing_stop e)
     no_refusal ends.End = tt
+    no_refusal (ends.Change batch line) = tt
     no_refusal (ends.Bad line) = tt
     no_refusal ends.Spent = tt
     no_refusal ends.CellFailed = tt
@@ -139,6 +141,7 @@ finishes Reached Broke was now mid lane batch work row count ending last answere
 
     by_ending : (e : WeighingEnd) → now.caller.faults ≡ min (was.caller.faults + 0) FAULTS_END → now.caller.faults ≡ min (was.caller.faults + faults_at (weighing_stop e)) FAULTS_END
     by_ending ends.End h = h
+    by_ending (ends.Change batch line) h = h
     by_ending (ends.Bad line) h = h
     by_ending ends.Spent h = h
     by_ending ends.CellFailed h = h

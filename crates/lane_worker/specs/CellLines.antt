@@ -1,23 +1,44 @@
 -- What the lines of a cell say, and what a cell over bytes has left.
-use Rattle.std.specs.Prelude.{ℕ, ℤ, ◌+◌, ◌-◌, ◌^◌, ◌==◌, nat_le, nat_lt, min, Bool, true, false, ◌||◌, List, [], ◌∷◌, length, if◌then◌else◌, Option, Some, None, option_map}
-use Rattle.std.specs.List.{list_any, slice_split}
+use Rattle.std.specs.Prelude.{ℕ, ℤ, ◌+◌, ◌-◌, ◌^◌, ◌==◌, nat_le, nat_lt, min, Bool, true, false, ◌||◌, List, [], ◌∷◌, length, if◌then◌else◌, codes, take, drop, not, Option, Some, None, option_map}
+use Rattle.std.specs.List.{list_all, list_any, slice_split}
+use Rattle.std.specs.Str.{bytes_eq}
 use Rattle.std.specs.Io.KnownBytes.{prepend_known}
 use Rattle.std.specs.Str.Lines.{strip_carriage_return}
 use Rattle.hall_units.specs.Grams.{milligrams_of}
+use Rattle.book_words.specs.declared.name.Name.{Name}
+use Rattle.book_words.specs.Names.{name_of}
 use Rattle.lane_worker.specs.declared.cell_lines.TheConstants.{MAX_CELL_LINE}
 use Rattle.lane_worker.specs.declared.types.CellNext.{CellNext}
-use Rattle.lane_worker.specs.declared.types.CellNext.TheVariants.{Gross, Bad}
+use Rattle.lane_worker.specs.declared.types.CellNext.TheVariants.{Gross, Batch, Bad}
 
 -- ---- one line
 
--- a text of grams is a weight, and any other is bad at its line
-abbrev pub gross_or_bad : ℕ → Option ℤ → CellNext
-gross_or_bad line (Some gross) = Gross gross
-gross_or_bad line None = Bad line
+-- a byte of a batch's name: neither space, tab nor CR
+abbrev pub is_batch_byte : ℕ → Bool
+is_batch_byte byte = not (byte == 32 || byte == 9 || byte == 13)
+
+-- the name that some bytes are
+abbrev pub batch_name : List ℕ → Option Name
+batch_name bytes = if list_all is_batch_byte bytes then name_of bytes else None
+
+-- the batch that a text names: `batch`, one space, and the name
+abbrev pub batch_said : List ℕ → Option Name
+batch_said text =
+    if bytes_eq (take 6 text) (codes "batch ") then batch_name (drop 6 text) else None
+
+-- a text that names a batch says it, and any other is bad at its line
+abbrev pub batch_or_bad : ℕ → Option Name → CellNext
+batch_or_bad line (Some batch) = Batch batch line
+batch_or_bad line None = Bad line
+
+-- a text of grams is a weight, and behind it comes what other texts say
+abbrev pub gross_or : CellNext → Option ℤ → CellNext
+gross_or other (Some gross) = Gross gross
+gross_or other None = other
 
 -- what a text says in a line
 abbrev pub text_says : List ℕ → ℕ → CellNext
-text_says text line = gross_or_bad line (milligrams_of text)
+text_says text line = gross_or (batch_or_bad line (batch_said text)) (milligrams_of text)
 
 -- what a line says whose text is this; a line of more than 64 bytes is bad
 abbrev pub line_says : List ℕ → List ℕ → ℕ → CellNext

@@ -6,13 +6,14 @@ use Rattle.book_words.specs.declared.caller.AskError.TheVariants as error
 use Rattle.lane_worker.specs.declared.types.CellNext as items
 use Rattle.lane_worker.specs.declared.types.CellNext.TheVariants as item
 use Rattle.lane_worker.specs.declared.ending.WeighingEnd.{WeighingEnd}
-use Rattle.lane_worker.specs.declared.ending.WeighingEnd.TheVariants.{End, Bad, Spent, CellFailed, GateFailed}
+use Rattle.lane_worker.specs.declared.ending.WeighingEnd.TheVariants.{End, Change, Bad, Spent, CellFailed, GateFailed}
 use Rattle.lane_worker.specs.declared.ending.LaneStop.{LaneStop}
 use Rattle.lane_worker.specs.declared.ending.LaneStop.TheVariants as stop
 
 -- the stop of a worker all of whose asks were answered
 abbrev pub weighing_stop : WeighingEnd → LaneStop
 weighing_stop End = stop.Done
+weighing_stop (Change batch line) = stop.Change batch line
 weighing_stop (Bad line) = stop.Bad line
 weighing_stop Spent = stop.Turns
 weighing_stop CellFailed = stop.Cell
@@ -32,6 +33,7 @@ faults_at _ = 0
 -- the last item that the cell gave, where it isn't the gross of a pack
 abbrev pub last_items : Option WeighingEnd → List items.CellNext
 last_items (Some End) = item.End ∷ []
+last_items (Some (Change batch line)) = item.Batch batch line ∷ []
 last_items (Some (Bad line)) = item.Bad line ∷ []
 last_items (Some Spent) = item.Spent ∷ []
 last_items _ = []

@@ -1,14 +1,16 @@
 ghost use Rattle.std.specs.Prelude.{◌≡◌};
 ghost use Rattle.lane_worker.specs.Endings.{weighing_stop, ask_stop};
 
-use book_words::{AskError, Refused};
+use book_words::{AskError, Name, Refused};
 
 /// Why a worker weighs no more packs, while the book answers.
 #[derive(Clone, Copy, PartialEq, Eq)]
 pub enum WeighingEnd {
     /// The cell gave its end.
     End,
-    /// The cell gave something that isn't a weight.
+    /// The cell gave the batch of the packs that follow.
+    Change { batch: Name, line: u32 },
+    /// The cell gave something that is neither a weight nor a batch.
     Bad { line: u32 },
     /// The cell has reached its bound.
     Spent,
@@ -23,11 +25,15 @@ pub enum WeighingEnd {
 pub enum LaneStop {
     /// All weights of the cell were weighed.
     Done,
+    /// The cell gave the batch of the packs that follow, in a line that isn't a weight.
+    Change { batch: Name, line: u32 },
+    /// The cell gave its end, and so many weights before it came where the lane had no batch.
+    Idle { weights: u32 },
     /// The cell failed.
     Cell,
     /// The gate failed, and stayed shut.
     Gate,
-    /// The cell gave something that isn't a weight. Lines are counted from 1.
+    /// The cell gave something that is neither a weight nor a batch. Lines are counted from 1.
     Bad { line: u32 },
     /// The book refused what was asked.
     Refused(Refused),
@@ -52,6 +58,7 @@ pub(crate) fn weighing_stop(ending: WeighingEnd) -> LaneStop
 {
     match ending {
         WeighingEnd::End => LaneStop::Done,
+        WeighingEnd::Change { batch, line } => LaneStop::Change { batch, line },
         WeighingEnd::Bad { line } => LaneStop::Bad { line },
         WeighingEnd::Spent => LaneStop::Turns,
         WeighingEnd::CellFailed => LaneStop::Cell,

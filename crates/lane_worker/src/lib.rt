@@ -23,7 +23,7 @@ mod weighing;
 mod worker;
 
 pub use cell::Cell;
-pub use cell_lines::MAX_CELL_LINE;
+pub use cell_lines::{MAX_CELL_LINE, batch_said};
 pub use either_cell::EitherCell;
 pub use ending::{LaneEnd, LaneStop, WeighingEnd};
 pub use gate::Gate;

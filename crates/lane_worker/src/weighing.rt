@@ -98,6 +98,7 @@ fn weigh_next<C: Caller, L: Lane>(
 {
     match lane.next() {
         Ok(CellNext::Gross(gross)) => weigh_pack(caller, lane, number, gross, progress),
+        Ok(CellNext::Batch { batch, line }) => Ok(Some(WeighingEnd::Change { batch, line })),
         Ok(CellNext::End) => Ok(Some(WeighingEnd::End)),
         Ok(CellNext::Bad { line }) => Ok(Some(WeighingEnd::Bad { line })),
         Ok(CellNext::Spent) => Ok(Some(WeighingEnd::Spent)),

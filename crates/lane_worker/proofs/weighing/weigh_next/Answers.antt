@@ -24,6 +24,14 @@ returns-in-Ok-End-clause-goes g c = λ first start batch weighs.
     c.args.number batch c.args.progress.now item.End ending.End refl refl refl weighs
     (record { next = subst (IsNext (g.L.Cell.left c.args.lane.now)) c.in-Ok-End.field-0-is gives.item.0; left = gives.item.1; cell = gives.cause; opened = law.0; gate = law.1 })
 
+pub returns-in-Ok-Batch-clause-goes : goal.returns-in-Ok-Batch-clause-goes
+returns-in-Ok-Batch-clause-goes g c = λ first start batch weighs.
+    let law = g.met.L.Lane.cell_leaves_gate c.args.lane.now c.next.new.self c.next.ensures.rest in
+    let gives = c.in-Ok-Batch.ensures in
+    ends_with (g.C.Caller.later first c.args.caller.now) (site g.C.Caller g.L.Cell g.L.Gate first start) (site g.C.Caller g.L.Cell g.L.Gate c.args.caller.now c.args.lane.now) (site g.C.Caller g.L.Cell g.L.Gate c.args.caller.now c.next.new.self)
+    c.args.number batch c.args.progress.now (item.Batch c.in-Ok-Batch.batch c.in-Ok-Batch.line) (ending.Change c.in-Ok-Batch.batch c.in-Ok-Batch.line) refl refl refl weighs
+    (record { next = subst (IsNext (g.L.Cell.left c.args.lane.now)) c.in-Ok-Batch.field-0-is gives.item.0; left = gives.item.1; cell = gives.cause; opened = law.0; gate = law.1 })
+
 pub returns-in-Ok-Bad-clause-goes : goal.returns-in-Ok-Bad-clause-goes
 returns-in-Ok-Bad-clause-goes g c = λ first start batch weighs.
     let law = g.met.L.Lane.cell_leaves_gate c.args.lane.now c.next.new.self c.next.ensures.rest in
