@@ -6,11 +6,17 @@ use remote_cell::RemoteCell;
 use stop_file::StopFile;
 use tcp_door::TcpDoor;
 
-/// A cell that hears its scale at a port. Where somebody asks that the hall end it has ended, once its
+/// The port of a scale, which standard error is told of.
+type PortDoor = ScaleDoor<TcpDoor<HostRuntime>, HostRuntime>;
+
+/// A cell that hears its scale at a port; what names a batch is bad until its lane expects that. Where somebody asks that the hall end it has ended, once its
 /// port takes no more: the last weight is acknowledged by then.
 #[derive(Drop)]
 pub struct PortCell {
-    cell: RemoteCell<ScaleDoor<TcpDoor<HostRuntime>, HostRuntime>>,
+    // Its port, until the first item is asked for.
+    door: Option<PortDoor>,
+    cell: Option<RemoteCell<PortDoor>>,
+    batches: bool,
     stop: StopFile,
     faults: u64,
 }
@@ -19,11 +25,26 @@ impl PortCell {
     ghost use Rattle.std.specs.Prelude.{◌≡◌};
 
     /// A cell over the port of a scale, which has failed nowhere yet.
-    pub fn new(door: ScaleDoor<TcpDoor<HostRuntime>, HostRuntime>, stop: StopFile) -> Self {
+    pub fn new(door: PortDoor, stop: StopFile) -> Self {
         PortCell {
-            cell: RemoteCell::new(door),
+            door: Some(door),
+            cell: None,
+            batches: false,
             stop,
             faults: 0,
+        }
+    }
+
+    // The next item that its scale sends.
+    fn hear_next(&mut self) -> Result<CellNext, Failed>
+        ensures { self.new.faults ≡ self.old.faults }
+    {
+        if let Some(door) = self.door.take() {
+            self.cell = Some(RemoteCell::new(door, self.batches));
+        }
+        match &mut self.cell {
+            Some(cell) => cell.next(),
+            None => Err(Failed),
         }
     }
 
@@ -31,7 +52,7 @@ impl PortCell {
     fn next_item(&mut self) -> Result<CellNext, Failed>
         ensures { self.new.faults ≡ self.old.faults }
     {
-        match self.cell.next() {
+        match self.hear_next() {
             Ok(CellNext::Bad { line: _ }) | Err(Failed) if self.stop.is_there() => {
                 Ok(CellNext::End)
             }
@@ -59,5 +80,9 @@ impl Cell for PortCell {
             self.faults = counted_once_more(self.faults);
         }
         item
+    }
+
+    fn expect_batches(&mut self) {
+        self.batches = true;
     }
 }

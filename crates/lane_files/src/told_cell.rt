@@ -49,4 +49,8 @@ impl<C: Cell, E: Eprint + Drop> Cell for ToldCell<C, E> {
         }
         item
     }
+
+    fn expect_batches(&mut self) {
+        self.cell.expect_batches();
+    }
 }

@@ -6,10 +6,11 @@ use std::io::Eprint;
 use std::marker::Model;
 
 /// A cell over a source of lines, as `LineCell` is. It tells on standard error each line that isn't a
-/// weight, and its end.
+/// weight, nor a batch where its lane changes that, and its end.
 #[derive(Drop)]
 pub struct ToldLines<S: Source, E: Eprint + Drop> {
     lines: LineCell<KeptSource<S>>,
+    batches: bool,
     teller: Teller<E>,
 }
 
@@ -34,6 +35,7 @@ impl<S: Source, E: Eprint + Drop> ToldLines<S, E> {
     {
         ToldLines {
             lines: LineCell::new(KeptSource::new(source)),
+            batches: false,
             teller: Teller::new(errors, path),
         }
     }
@@ -53,11 +55,17 @@ impl<S: Source, E: Eprint + Drop> Cell for ToldLines<S, E> {
         let item = self.lines.next();
         match &item {
             Ok(CellNext::End) => self.teller.tell_end(),
-            Ok(CellNext::Bad { line }) => {
+            Ok(CellNext::Batch { .. }) if self.batches => {}
+            Ok(CellNext::Batch { line, .. } | CellNext::Bad { line }) => {
                 self.teller.tell_bad(*line, self.lines.source().line(*line));
             }
             _ => {}
         }
         item
+    }
+
+    fn expect_batches(&mut self) {
+        self.batches = true;
+        self.lines.expect_batches();
     }
 }

@@ -1,4 +1,4 @@
-ghost use Rattle.std.specs.Prelude.{ℕ, List, Option};
+ghost use Rattle.std.specs.Prelude.{◌≡◌, ℕ, List, Option};
 ghost use Rattle.device_facts.specs.Count.{CountsFault};
 ghost use Rattle.lane_worker.specs.declared.types.CellNext.{CellNext};
 ghost use Rattle.lane_worker.specs.Cells.{GivesNext};
@@ -24,5 +24,12 @@ pub trait Cell {
     fn next(&mut self) -> Result<CellNext, Failed>
         ensures item { GivesNext (left self.old) (left self.new) result }
         ensures cause { CountsFault (faults self.old) (faults self.new) result }
+        ensures rest { keeps_rest self.old self.new };
+
+    /// Its lane changes its batch, so that what names one is an item from now on, where it was bad
+    /// before. This takes no item.
+    fn expect_batches(&mut self)
+        ensures left { left self.new ≡ left self.old }
+        ensures faults { faults self.new ≡ faults self.old }
         ensures rest { keeps_rest self.old self.new };
 }

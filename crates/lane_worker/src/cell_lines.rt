@@ -28,7 +28,11 @@ fn are_batch_bytes(bytes: &[u8]) -> bool
 fn batch_name(bytes: &[u8]) -> Option<Name>
     ensures { result ≡ batch_name bytes.now }
 {
-    if are_batch_bytes(bytes) { Name::new(bytes) } else { None }
+    if are_batch_bytes(bytes) {
+        Name::new(bytes)
+    } else {
+        None
+    }
 }
 
 /// The batch that a text names: `batch`, one space, and 1 to 32 bytes that are neither space, tab nor

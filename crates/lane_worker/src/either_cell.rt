@@ -26,4 +26,11 @@ impl<A: Cell, B: Cell> Cell for EitherCell<A, B> {
             EitherCell::Other(cell) => cell.next(),
         }
     }
+
+    fn expect_batches(&mut self) {
+        match self {
+            EitherCell::One(cell) => cell.expect_batches(),
+            EitherCell::Other(cell) => cell.expect_batches(),
+        }
+    }
 }

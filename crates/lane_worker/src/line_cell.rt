@@ -108,4 +108,6 @@ impl<S: Source> Cell for LineCell<S> {
         }
         item
     }
+
+    fn expect_batches(&mut self) {}
 }

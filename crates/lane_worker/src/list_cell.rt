@@ -105,4 +105,6 @@ impl Cell for ListCell {
         }
         Ok(self.take_item())
     }
+
+    fn expect_batches(&mut self) {}
 }

@@ -35,6 +35,10 @@ impl<C: Cell, G> Cell for PairLane<C, G> {
     fn next(&mut self) -> Result<CellNext, Failed> {
         self.cell.next()
     }
+
+    fn expect_batches(&mut self) {
+        self.cell.expect_batches();
+    }
 }
 
 impl<C, G: Gate> Gate for PairLane<C, G> {
