@@ -42,6 +42,8 @@ abbrev pub is_early_stop : LaneStop → Bool
 is_early_stop lane.Cell = true
 is_early_stop lane.Gate = true
 is_early_stop (lane.Bad line) = true
+is_early_stop (lane.Change batch line) = true
+is_early_stop (lane.Idle weights) = true
 is_early_stop (lane.Refused refused) = true
 is_early_stop _ = false
 

@@ -20,7 +20,12 @@ fn is_early(end: &LaneEnd) -> bool
     ensures { result ≡ is_early end.now }
 {
     match end.stop {
-        LaneStop::Cell | LaneStop::Gate | LaneStop::Bad { .. } | LaneStop::Refused(_) => true,
+        LaneStop::Cell
+        | LaneStop::Gate
+        | LaneStop::Bad { .. }
+        | LaneStop::Change { .. }
+        | LaneStop::Idle { .. }
+        | LaneStop::Refused(_) => true,
         LaneStop::Done | LaneStop::DiskFault | LaneStop::NoMemory | LaneStop::Turns => false,
     }
 }

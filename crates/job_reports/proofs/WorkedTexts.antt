@@ -19,6 +19,11 @@ bad_weight : lane_text 16 (record { opened = 12; stop = stop.Bad 13 })
 unfolding lane_text digits
 bad_weight = refl
 
+idle : lane_text 3 (record { opened = 7; stop = stop.Idle 21 })
+    ≡ codes "lane 3 opened 7 idle 21\n"
+unfolding lane_text digits
+idle = refl
+
 refused : lane_text 2 (record {
   opened = 1;
   stop = stop.Refused (record { at = 8; refusal = why.GrossRange });

@@ -4,7 +4,7 @@ use Rattle.book_words.specs.declared.reply.Refused.{Refused}
 use Rattle.book_words.specs.Numbers.{refusal_number}
 use Rattle.lane_worker.specs.declared.ending.LaneEnd.{LaneEnd}
 use Rattle.lane_worker.specs.declared.ending.LaneStop.{LaneStop}
-use Rattle.lane_worker.specs.declared.ending.LaneStop.TheVariants.{Done, Cell, Gate, Bad, Refused as RefusedBy, DiskFault, NoMemory, Turns}
+use Rattle.lane_worker.specs.declared.ending.LaneStop.TheVariants.{Done, Cell, Gate, Bad, Change, Idle, Refused as RefusedBy, DiskFault, NoMemory, Turns}
 use Rattle.office_door.specs.declared.ending.DoorEnd.{DoorEnd}
 use Rattle.office_door.specs.declared.ending.DoorStop.{DoorStop}
 use Rattle.office_door.specs.declared.ending.DoorStop.TheVariants as stop
@@ -21,6 +21,8 @@ stop_text Done = codes "done"
 stop_text Cell = codes "cell"
 stop_text Gate = codes "gate"
 stop_text (Bad line) = codes "bad " ++ decimal line
+stop_text (Change batch line) = codes "bad " ++ decimal line
+stop_text (Idle weights) = codes "idle " ++ decimal weights
 stop_text (RefusedBy refused) = refused_text refused
 stop_text DiskFault = codes "disk"
 stop_text NoMemory = codes "memory"

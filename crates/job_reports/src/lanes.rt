@@ -46,7 +46,10 @@ fn push_stop(to: &mut Vec<u8>, stop: &LaneStop)
         LaneStop::Done => append(to, b"done"),
         LaneStop::Cell => append(to, b"cell"),
         LaneStop::Gate => append(to, b"gate"),
-        LaneStop::Bad { line } => append_numbered(to, b"bad ", *line),
+        LaneStop::Bad { line } | LaneStop::Change { line, .. } => {
+            append_numbered(to, b"bad ", *line)
+        }
+        LaneStop::Idle { weights } => append_numbered(to, b"idle ", *weights),
         LaneStop::Refused(refused) => push_refused(to, refused),
         LaneStop::DiskFault => append(to, b"disk"),
         LaneStop::NoMemory => append(to, b"memory"),

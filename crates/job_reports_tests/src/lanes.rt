@@ -7,7 +7,7 @@ use std::test::Fail;
 // A lane, how often its gate opened, how its work came to its end, and its line.
 type Row = (u8, u32, LaneStop, &'static [u8]);
 
-const ROWS: [Row; 10] = [
+const ROWS: [Row; 12] = [
     (1, 2, LaneStop::Done, b"lane 1 opened 2 done\n"),
     (1, 0, LaneStop::Gate, b"lane 1 opened 0 gate\n"),
     (2, 10, LaneStop::Cell, b"lane 2 opened 10 cell\n"),
@@ -39,6 +39,13 @@ const ROWS: [Row; 10] = [
     (1, 3, LaneStop::DiskFault, b"lane 1 opened 3 disk\n"),
     (0, 0, LaneStop::NoMemory, b"lane 0 opened 0 memory\n"),
     (1, 4, LaneStop::Turns, b"lane 1 opened 4 turns\n"),
+    (4, 9, LaneStop::Idle { weights: 1 }, b"lane 4 opened 9 idle 1\n"),
+    (
+        4,
+        9,
+        LaneStop::Idle { weights: u32::MAX },
+        b"lane 4 opened 9 idle 4294967295\n",
+    ),
 ];
 
 // The place of the first row whose line is another. Each begins without room.

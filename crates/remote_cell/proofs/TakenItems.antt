@@ -1,5 +1,5 @@
 -- What is taken of lines and what is written for them, with lines or connections more.
-use Rattle.std.proofs.Common.{◌≡◌, ℕ, ◌+◌, cond, List, [], ◌∷◌, ◌++◌, length, sym, ◌∙◌, ap, subst, arith, append_assoc, append-nil, length-append}
+use Rattle.std.proofs.Common.{◌≡◌, ℕ, ◌+◌, Bool, cond, List, [], ◌∷◌, ◌++◌, length, sym, ◌∙◌, ap, subst, arith, append_assoc, append-nil, length-append}
 use Rattle.std.specs.Prelude.{flat_map}
 use Rattle.std.proofs.lemmas.Grind.{flat_map-append}
 use Rattle.device_facts.specs.Prefix.{IsPrefixOf}
@@ -79,24 +79,24 @@ one_acknowledged n m lines line is =
 
 -- ---- connections more
 
-abbrev all_lines : List Connection → List Line
-all_lines p = flat_map connection_lines p
+abbrev all_lines : (b : Bool) → List Connection → List Line
+all_lines b p = flat_map (connection_lines b) p
 
-lines_one_more : (p : List Connection) (c : Connection)
-    → all_lines (p ++ c ∷ []) ≡ all_lines p ++ connection_lines c
-lines_one_more p c =
-    flat_map-append connection_lines p (c ∷ [])
-    ∙ ap (λ (l : List Line). all_lines p ++ l) (append-nil (connection_lines c))
+lines_one_more : (b : Bool) (p : List Connection) (c : Connection)
+    → all_lines b (p ++ c ∷ []) ≡ all_lines b p ++ connection_lines b c
+lines_one_more b p c =
+    flat_map-append (connection_lines b) p (c ∷ [])
+    ∙ ap (λ (l : List Line). all_lines b p ++ l) (append-nil (connection_lines b c))
 
-from_none : (p : List Connection) → count 0 (all_lines p) ≡ length (given_items p)
-from_none p = omega arith
+from_none : (b : Bool) (p : List Connection) → count 0 (all_lines b p) ≡ length (given_items b p)
+from_none b p = omega arith
 
-pub given_more : (p : List Connection) (c : Connection) → given_items (p ++ c ∷ [])
-    ≡ given_items p ++ line_items (length (given_items p)) (connection_lines c)
-given_more p c =
-    ap (line_items 0) (lines_one_more p c)
-    ∙ given_both 0 (all_lines p) (connection_lines c)
-    ∙ ap (λ (k : ℕ). given_items p ++ line_items k (connection_lines c)) (from_none p)
+pub given_more : (b : Bool) (p : List Connection) (c : Connection) → given_items b (p ++ c ∷ [])
+    ≡ given_items b p ++ line_items (length (given_items b p)) (connection_lines b c)
+given_more b p c =
+    ap (line_items 0) (lines_one_more b p c)
+    ∙ given_both 0 (all_lines b p) (connection_lines b c)
+    ∙ ap (λ (k : ℕ). given_items b p ++ line_items k (connection_lines b c)) (from_none b p)
 
 pub texts_more : (p : List Connection) (c : Connection)
     → texts_on (p ++ c ∷ []) ≡ texts_on p ++ whole_lines c.taken
@@ -104,47 +104,49 @@ texts_more p c =
     flat_map-append (λ (x : Connection). whole_lines x.taken) p (c ∷ [])
     ∙ ap (λ (l : List (List ℕ)). texts_on p ++ l) (append-nil (whole_lines c.taken))
 
-count_first : (n : ℕ) (x : Connection) (p : List Connection)
-    → count n (all_lines (x ∷ p)) ≡ count (count n (connection_lines x)) (all_lines p)
-count_first n x p = count_both n (connection_lines x) (all_lines p)
+count_first : (b : Bool) (n : ℕ) (x : Connection) (p : List Connection)
+    → count n (all_lines b (x ∷ p)) ≡ count (count n (connection_lines b x)) (all_lines b p)
+count_first b n x p = count_both n (connection_lines b x) (all_lines b p)
 
-answered_behind : (n : ℕ) (p : List Connection) (c : Connection) → AreAnswered n p
-    → IsPrefixOf c.written (connection_acknowledgements (count n (all_lines p)) c)
-    → AreAnswered n (p ++ c ∷ [])
-answered_behind n [] c all begins =
+answered_behind : (b : Bool) (n : ℕ) (p : List Connection) (c : Connection) → AreAnswered b n p
+    → IsPrefixOf c.written (connection_acknowledgements b (count n (all_lines b p)) c)
+    → AreAnswered b n (p ++ c ∷ [])
+answered_behind b n [] c all begins =
     let same : n + 0 ≡ n = omega arith in
-    (subst (λ (k : ℕ). IsPrefixOf c.written (connection_acknowledgements k c)) same begins, tt)
-answered_behind n (x ∷ p) c all begins = (
+    (subst (λ (k : ℕ). IsPrefixOf c.written (connection_acknowledgements b k c)) same begins, tt)
+answered_behind b n (x ∷ p) c all begins = (
   all.0,
-  answered_behind (count n (connection_lines x)) p c all.1
-      (subst (λ (k : ℕ). IsPrefixOf c.written (connection_acknowledgements k c)) (count_first n x p) begins),
+  answered_behind b (count n (connection_lines b x)) p c all.1
+      (subst (λ (k : ℕ). IsPrefixOf c.written (connection_acknowledgements b k c))
+          (count_first b n x p) begins),
 )
 
-pub answered_more : (p : List Connection) (c : Connection) → AreAnswered 0 p
-    → IsPrefixOf c.written (connection_acknowledgements (length (given_items p)) c)
-    → AreAnswered 0 (p ++ c ∷ [])
-answered_more p c all begins =
-    answered_behind 0 p c all
-    (subst (λ (k : ℕ). IsPrefixOf c.written (connection_acknowledgements k c)) (sym (from_none p)) begins)
+pub answered_more : (b : Bool) (p : List Connection) (c : Connection) → AreAnswered b 0 p
+    → IsPrefixOf c.written (connection_acknowledgements b (length (given_items b p)) c)
+    → AreAnswered b 0 (p ++ c ∷ [])
+answered_more b p c all begins =
+    answered_behind b 0 p c all
+    (subst (λ (k : ℕ). IsPrefixOf c.written (connection_acknowledgements b k c)) (sym
+        (from_none b p)) begins)
 
-abbrev one_undone : ℕ → Connection → ℕ
-one_undone n c = cond (is_done n c) 0 1
+abbrev one_undone : (b : Bool) → ℕ → Connection → ℕ
+one_undone b n c = cond (is_done b n c) 0 1
 
-undone_behind : (n : ℕ) (p : List Connection) (c : Connection)
-    → undone n (p ++ c ∷ []) ≡ undone n p + one_undone (count n (all_lines p)) c
-undone_behind n [] c =
+undone_behind : (b : Bool) (n : ℕ) (p : List Connection) (c : Connection)
+    → undone b n (p ++ c ∷ []) ≡ undone b n p + one_undone b (count n (all_lines b p)) c
+undone_behind b n [] c =
     let same : n + 0 ≡ n = omega arith in
-    omega (arith, ap (λ (k : ℕ). one_undone k c) same)
-undone_behind n (x ∷ p) c =
-    let m : ℕ = count n (connection_lines x) in
+    omega (arith, ap (λ (k : ℕ). one_undone b k c) same)
+undone_behind b n (x ∷ p) c =
+    let m : ℕ = count n (connection_lines b x) in
     omega (
       arith,
-      undone_behind m p c,
-      ap (λ (k : ℕ). one_undone k c) (count_first n x p),
+      undone_behind b m p c,
+      ap (λ (k : ℕ). one_undone b k c) (count_first b n x p),
     )
 
-pub undone_more : (p : List Connection) (c : Connection)
-    → undone 0 (p ++ c ∷ []) ≡ undone 0 p + cond (is_done (length (given_items p)) c) 0 1
-undone_more p c =
-    undone_behind 0 p c
-    ∙ ap (λ (k : ℕ). undone 0 p + one_undone k c) (from_none p)
+pub undone_more : (b : Bool) (p : List Connection) (c : Connection)
+    → undone b 0 (p ++ c ∷ []) ≡ undone b 0 p + cond (is_done b (length (given_items b p)) c) 0 1
+undone_more b p c =
+    undone_behind b 0 p c
+    ∙ ap (λ (k : ℕ). undone b 0 p + one_undone b k c) (from_none b p)

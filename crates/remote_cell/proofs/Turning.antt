@@ -6,8 +6,9 @@ use Rattle.disk_core.specs.declared.types.Failed.{Failed}
 use Rattle.disk_core.specs.Doors.{Connections, served, next_connections, with_taken, with_written, left_now}
 use Rattle.lane_worker.specs.declared.types.CellNext.{CellNext}
 use Rattle.lane_worker.specs.declared.types.CellNext.TheVariants as cell
+use Rattle.lane_worker.specs.CellLines.{next_line}
 use Rattle.remote_cell.specs.declared.items.Item.{Item}
-use Rattle.remote_cell.specs.declared.items.Item.TheVariants.{Gross, End}
+use Rattle.remote_cell.specs.declared.items.Item.TheVariants.{Gross, Batch, End}
 use Rattle.remote_cell.specs.declared.receiver.Heard as hears
 use Rattle.remote_cell.specs.declared.receiver.Heard.TheVariants.{Take, Again, Ahead}
 use Rattle.remote_cell.specs.declared.hearing.Hearing.{Hearing}
@@ -72,13 +73,14 @@ failed_both a b c (suc j) (suc k) (suc m) is p q = omega (arith, is, p, q)
 
 -- ---- steps one after another
 
-taken_both : (x y z : Bool) (g h given : List Item) (s t turns j k faults : ℕ)
+taken_both : (takes x y z : Bool) (g h given : List Item) (s t turns j k faults : ℕ)
     → given ≡ g ++ h → turns ≡ s + t → faults ≡ j + k → (a b c : Connections)
-    → HasTaken x y g s j a b → HasTaken y z h t k b c → HasTaken x z given turns faults a c
-taken_both x y z g h given s t turns j k faults given_is turns_is faults_is a b c p q = record {
+    → HasTaken takes x y g s j a b → HasTaken takes y z h t k b c
+        → HasTaken takes x z given turns faults a c
+taken_both takes x y z g h given s t turns j k faults given_is turns_is faults_is a b c p q = record {
   given_is = q.given_is ∙ ap (λ (l : List Item). l ++ h) p.given_is
-      ∙ append_assoc (given_items (served a)) g h
-      ∙ ap (λ (l : List Item). given_items (served a) ++ l) (sym given_is);
+      ∙ append_assoc (given_items takes (served a)) g h
+      ∙ ap (λ (l : List Item). given_items takes (served a) ++ l) (sym given_is);
   turns_are = omega (arith, p.turns_are, q.turns_are, turns_is);
   undone_few = omega (arith, p.undone_few, q.undone_few, faults_is);
   faults_leave = omega (arith, p.faults_leave, q.faults_leave, faults_is);
@@ -89,12 +91,16 @@ pub goes_on : (a b c : Site) (g h given : List Item) (s t turns j k faults refus
     → Goes b c h t k refused → Goes a c given turns faults refused
 goes_on a b c g h given s t turns j k faults refused given_is turns_is faults_is p q = record {
   sound = q.sound;
+  same = q.same ∙ p.same;
   told = both_on a.door.connections b.door.connections c.door.connections
-      (HasTaken a.hearing.connected b.hearing.connected g s j)
-      (HasTaken b.hearing.connected c.hearing.connected h t k)
-      (HasTaken a.hearing.connected c.hearing.connected given turns faults) p.told q.told
-      (taken_both a.hearing.connected b.hearing.connected c.hearing.connected g h given s t turns j
-      k faults given_is turns_is faults_is);
+      (HasTaken a.hearing.batches a.hearing.connected b.hearing.connected g s j)
+      (HasTaken a.hearing.batches b.hearing.connected c.hearing.connected h t k)
+      (HasTaken a.hearing.batches a.hearing.connected c.hearing.connected given turns faults)
+      p.told
+      (subst (λ (takes : Bool). IfBoth b.door.connections c.door.connections
+      (HasTaken takes b.hearing.connected c.hearing.connected h t k)) p.same q.told)
+      (taken_both a.hearing.batches a.hearing.connected b.hearing.connected c.hearing.connected g h
+      given s t turns j k faults given_is turns_is faults_is);
   faults_are = failed_both a.door.faults b.door.faults c.door.faults (j + 0) (k + refused)
       (faults + refused) (omega (arith, faults_is)) p.faults_are q.faults_are;
   missed_are = failed_both a.door.missed b.door.missed c.door.missed 0 refused refused
@@ -104,9 +110,10 @@ goes_on a b c g h given s t turns j k faults refused given_is turns_is faults_is
 pub stays : (here : Site) → IsSound here.door here.hearing → Goes here here [] 0 0 0
 stays here sound = record {
   sound = sound;
+  same = refl;
   told = both_same here.door.connections
-      (HasTaken here.hearing.connected here.hearing.connected [] 0 0)
-      (none_taken here.hearing.connected);
+      (HasTaken here.hearing.batches here.hearing.connected here.hearing.connected [] 0 0)
+      (none_taken here.hearing.batches here.hearing.connected);
   faults_are = refl;
   missed_are = refl;
 }
@@ -124,14 +131,14 @@ owes_nothing here sound owes = record {
   says = λ line last. last;
 }
 
-says_on : (line : Line) (bytes : List ℕ) (was now : Option Connections)
-    → now ≡ option_map (with_written bytes) was → IfSome was (LastSays line)
-    → IfSome now (LastSays line)
-says_on line bytes was None is last = tt
-says_on line bytes None (Some b) is last = absurd (cc)
-says_on line bytes (Some a) (Some b) is last =
+says_on : (takes : Bool) (line : Line) (bytes : List ℕ) (was now : Option Connections)
+    → now ≡ option_map (with_written bytes) was → IfSome was (LastSays takes line)
+    → IfSome now (LastSays takes line)
+says_on takes line bytes was None is last = tt
+says_on takes line bytes None (Some b) is last = absurd (cc)
+says_on takes line bytes (Some a) (Some b) is last =
     let same : with_written bytes a ≡ b = cc in
-    subst (LastSays line) same (still_says line bytes a.past a.present a.waiting last)
+    subst (LastSays takes line) same (still_says takes line bytes a.past a.present a.waiting last)
 
 sent_faults : {E : Type 0} (was now : Port) (text : List ℕ) (result : Result ⊤ E)
     → Sends was now text result → FailedSoOften was.faults now.faults (failed result + 0)
@@ -144,7 +151,7 @@ pub pays : {E : Type 0} (door mid : Port) (h : Hearing) (result : Result ⊤ E) 
 pays door mid h result sound owes sent =
     let connected = sound.owing owes in
     let told = lift door.connections mid.connections (with_written sent.bytes) (λ all. ⊤) h
-    (paid h (is_ok result)) (λ all. ⊤) (HasTaken true (is_ok result) [] 0 (failed result))
+    (paid h (is_ok result)) (λ all. ⊤) (HasTaken h.batches true (is_ok result) [] 0 (failed result))
     sent.connections (nothing_told mid.connections) sound.told
     (λ all knows q.
     let done = writes h all.past all.present all.waiting sent.bytes result owes connected
@@ -158,15 +165,16 @@ pays door mid h result sound owes sent =
           owing = λ is. absurd (true≢false (sym is));
           told = told.0;
         };
+        same = refl;
         told = subst (λ (b : Bool). IfBoth door.connections mid.connections
-            (HasTaken b (is_ok result) [] 0 (failed result))) (sym connected) told.2;
+            (HasTaken h.batches b (is_ok result) [] 0 (failed result))) (sym connected) told.2;
         faults_are = sent_faults door mid (acknowledgement h.receiver) result sent;
         missed_are = sent.missed;
       };
       over = refl;
       taken = refl;
       paid = refl;
-      says = λ line last. says_on line sent.bytes door.connections mid.connections
+      says = λ line last. says_on h.batches line sent.bytes door.connections mid.connections
           sent.connections last;
     }
 
@@ -175,6 +183,7 @@ pays door mid h result sound owes sent =
 line_connected : (h : Hearing) (how : hears.Heard) (item : Item)
     → (heard_line h how item).connected ≡ h.connected
 line_connected h Take (Gross gross) = refl
+line_connected h Take (Batch batch) = refl
 line_connected h Take End = refl
 line_connected h Again item = refl
 line_connected h Ahead item = refl
@@ -184,13 +193,26 @@ text_connected : (h : Hearing) (said : Option Line)
 text_connected h None = refl
 text_connected h (Some line) = line_connected h (heard h.receiver line.0) line.1
 
+line_takes : (h : Hearing) (how : hears.Heard) (item : Item)
+    → (heard_line h how item).batches ≡ h.batches
+line_takes h Take (Gross gross) = refl
+line_takes h Take (Batch batch) = refl
+line_takes h Take End = refl
+line_takes h Again item = refl
+line_takes h Ahead item = refl
+
+text_takes : (h : Hearing) (said : Option Line) → (heard_text h said).batches ≡ h.batches
+text_takes h None = refl
+text_takes h (Some line) = line_takes h (heard h.receiver line.0) line.1
+
 abbrev may_over : Option CellNext → Option CellNext
 may_over None = None
 may_over (Some item) = over_behind item
 
 line_over : (h : Hearing) (how : hears.Heard) (item : Item) → h.over ≡ None
-    → (heard_line h how item).over ≡ may_over (item_given how item)
+    → (heard_line h how item).over ≡ may_over (item_given (next_line h.lines) how item)
 line_over h Take (Gross gross) over = over
+line_over h Take (Batch batch) over = over
 line_over h Take End over = refl
 line_over h Again item over = over
 line_over h Ahead item over = over
@@ -203,12 +225,14 @@ text_over h (Some line) over = line_over h (heard h.receiver line.0) line.1 over
 -- what is owed where nothing is acknowledged at once
 abbrev pub OwesBy : Option CellNext → Bool → Type 0
 OwesBy (Some (cell.Gross gross)) owes = owes ≡ true
+OwesBy (Some (cell.Batch batch line)) owes = owes ≡ true
 OwesBy (Some (cell.Bad line)) owes = owes ≡ false
 OwesBy item owes = Unit {0}
 
 line_owes : (h : Hearing) (how : hears.Heard) (item : Item)
-    → OwesBy (item_given how item) (heard_line h how item).owes
+    → OwesBy (item_given (next_line h.lines) how item) (heard_line h how item).owes
 line_owes h Take (Gross gross) = refl
+line_owes h Take (Batch batch) = refl
 line_owes h Take End = tt
 line_owes h Again item = tt
 line_owes h Ahead item = tt
@@ -218,15 +242,18 @@ text_owes : (h : Hearing) (said : Option Line) → h.owes ≡ false
 text_owes h None owes = owes
 text_owes h (Some line) owes = line_owes h (heard h.receiver line.0) line.1
 
-line_unspent : (how : hears.Heard) (item : Item) → item_given how item ≡ Some cell.Spent → ⊥
-line_unspent Take (Gross gross) is = absurd (cc)
-line_unspent Take End is = absurd (cc)
-line_unspent Again item is = absurd (cc)
-line_unspent Ahead item is = absurd (cc)
+line_unspent : (line : ℕ) (how : hears.Heard) (item : Item)
+    → item_given line how item ≡ Some cell.Spent → ⊥
+line_unspent line Take (Gross gross) is = absurd (cc)
+line_unspent line Take (Batch batch) is = absurd (cc)
+line_unspent line Take End is = absurd (cc)
+line_unspent line Again item is = absurd (cc)
+line_unspent line Ahead item is = absurd (cc)
 
 text_unspent : (h : Hearing) (said : Option Line) → item_heard h said ≡ Some cell.Spent → ⊥
 text_unspent h None is = absurd (cc)
-text_unspent h (Some line) is = line_unspent (heard h.receiver line.0) line.1 is
+text_unspent h (Some line) is =
+    line_unspent (next_line h.lines) (heard h.receiver line.0) line.1 is
 
 -- a whole line was read and heard
 pub record Hears (was now : Site) (item : Option CellNext) : Type 0 where
@@ -234,17 +261,18 @@ pub record Hears (was now : Site) (item : Option CellNext) : Type 0 where
   pub over : now.hearing.over ≡ may_over item
   pub owes : OwesBy item now.hearing.owes
   pub unspent : item ≡ Some cell.Spent → ⊥
-  pub tells : IfSome now.door.connections (MayTell now.hearing.receiver item)
+  pub tells : IfSome now.door.connections
+      (MayTell now.hearing.batches now.hearing.receiver item)
 
 pub hears_line : (door mid : Port) (h : Hearing) (text : List ℕ) → IsReady (site door h)
     → h.connected ≡ true → ReadsLine door mid text Whole
-    → Hears (site door h) (site mid (heard_text h (line_said text)))
-    (item_heard h (line_said text))
+    → Hears (site door h) (site mid (heard_text h (line_said h.batches text)))
+    (item_heard h (line_said h.batches text))
 hears_line door mid h text ready connected read =
-    let said : Option Line = line_said text in
+    let said : Option Line = line_said h.batches text in
     let told = lift door.connections mid.connections (with_taken (text ++ 10 ∷ [])) (λ all. ⊤) h
-    (heard_text h said) (MayTell (heard_text h said).receiver (item_heard h said))
-    (HasTaken true true (may_items (item_heard h said)) 1 0) read.connections
+    (heard_text h said) (MayTell h.batches (heard_text h said).receiver (item_heard h said))
+    (HasTaken h.batches true true (may_items (item_heard h said)) 1 0) read.connections
     (nothing_told mid.connections) ready.sound.told
     (λ all knows q. hears_text h all.past all.present all.waiting text said refl ready.goes_on
     ready.paid connected read.plain read.ends.0 knows) in
@@ -256,25 +284,28 @@ hears_line door mid h text ready connected read =
           owing = λ is. still;
           told = told.0;
         };
+        same = text_takes h said;
         told = subst (λ (a : Bool). IfBoth door.connections mid.connections
-            (HasTaken a (heard_text h said).connected (may_items (item_heard h said)) 1 0))
+            (HasTaken h.batches a (heard_text h said).connected (may_items
+                (item_heard h said)) 1 0))
             (sym connected)
             (subst (λ (b : Bool). IfBoth door.connections mid.connections
-            (HasTaken true b (may_items (item_heard h said)) 1 0)) (sym still) told.2);
+            (HasTaken h.batches true b (may_items (item_heard h said)) 1 0)) (sym still) told.2);
         faults_are = read.ends.2;
         missed_are = read.missed;
       };
       over = text_over h said ready.goes_on;
       owes = text_owes h said ready.paid;
       unspent = text_unspent h said;
-      tells = told.1;
+      tells = subst (λ (takes : Bool). IfSome mid.connections (MayTell takes
+          (heard_text h said).receiver (item_heard h said))) (sym (text_takes h said)) told.1;
     }
 
-told_end : (was now : ℕ) (connections : Option Connections) → now ≡ was
-    → IfSome connections (LastSays (was, End)) → IfSome connections (Tells now cell.End)
-told_end was now None is last = tt
-told_end was now (Some all) is last =
-    subst (λ (n : ℕ). LastSays (n, End) all) (sym is) last
+told_end : (b : Bool) (was now : ℕ) (connections : Option Connections) → now ≡ was
+    → IfSome connections (LastSays b (was, End)) → IfSome connections (Tells b now cell.End)
+told_end b was now None is last = tt
+told_end b was now (Some all) is last =
+    subst (λ (n : ℕ). LastSays b (n, End) all) (sym is) last
 
 pub turns_line : (was mid now : Site) (item : Option CellNext) → Hears was mid item
     → AnsweredIf (is_answered item) mid now → TurnsTo was now (Ok item)
@@ -299,6 +330,17 @@ turns_line was mid now (Some (cell.Gross gross)) heard answered =
       unspent = λ is. cc;
       tells = heard.tells;
     })
+turns_line was mid now (Some (cell.Batch batch line)) heard answered =
+    subst (λ (x : Site). Gives was x (cell.Batch batch line)) (sym answered) (record {
+      turns = 1;
+      faults = 0;
+      goes = heard.goes;
+      few = omega arith;
+      over = heard.over;
+      owes = heard.owes;
+      unspent = λ is. cc;
+      tells = heard.tells;
+    })
 turns_line was mid now (Some cell.End) heard answered = record {
   turns = 1;
   faults = answered.faults;
@@ -308,7 +350,8 @@ turns_line was mid now (Some cell.End) heard answered = record {
   over = answered.over ∙ heard.over;
   owes = answered.paid;
   unspent = λ is. cc;
-  tells = told_end mid.hearing.receiver now.hearing.receiver now.door.connections answered.taken
+  tells = told_end now.hearing.batches mid.hearing.receiver now.hearing.receiver
+      now.door.connections answered.taken
       (answered.says (mid.hearing.receiver, End) heard.tells);
 }
 turns_line was mid now (Some (cell.Bad line)) heard answered =
@@ -331,7 +374,8 @@ pub turns_long : (door mid : Port) (h : Hearing) (line : List ℕ) → IsReady (
     → TurnsTo (site door h) (site mid (spoilt h)) (Ok (Some (bad_behind h)))
 turns_long door mid h line ready connected read =
     let told = lift door.connections mid.connections (with_taken line) (λ all. ⊤) h (spoilt h)
-    (Tells h.receiver (bad_behind h)) (HasTaken true true [] 0 0) read.connections
+    (Tells h.batches h.receiver (bad_behind h))
+        (HasTaken h.batches true true [] 0 0) read.connections
     (nothing_told mid.connections) ready.sound.told
     (λ all knows q. too_long h all.past all.present all.waiting line ready.goes_on connected
     read.plain read.ends.0 knows) in
@@ -344,8 +388,9 @@ turns_long door mid h line ready connected read =
           owing = λ is. connected;
           told = told.0;
         };
+        same = refl;
         told = subst (λ (a : Bool). IfBoth door.connections mid.connections
-            (HasTaken a a [] 0 0)) (sym connected) told.2;
+            (HasTaken h.batches a a [] 0 0)) (sym connected) told.2;
         faults_are = read.ends.2;
         missed_are = read.missed;
       };
@@ -365,7 +410,8 @@ admitted : (door mid : Port) (h : Hearing) → IsReady (site door h) → h.conne
     → Goes (site door h) (site mid (joining h)) [] 1 0 0
 admitted door mid h ready left is found begins calm missed =
     let told = lift door.connections mid.connections next_connections
-    (λ all. true ≡ is_some all.present) h (joining h) (λ all. ⊤) (HasTaken false true [] 1 0) is
+    (λ all. true ≡ is_some all.present) h (joining h) (λ all. ⊤)
+        (HasTaken h.batches false true [] 1 0) is
     found ready.sound.told
     (λ all knows q. by all all.waiting refl knows q) in
     record {
@@ -374,8 +420,9 @@ admitted door mid h ready left is found begins calm missed =
         owing = λ owes. refl;
         told = told.0;
       };
+      same = refl;
       told = subst (λ (a : Bool). IfBoth door.connections mid.connections
-          (HasTaken a true [] 1 0)) (sym left) told.2;
+          (HasTaken h.batches a true [] 1 0)) (sym left) told.2;
       faults_are = calm;
       missed_are = missed;
     }
@@ -383,7 +430,7 @@ admitted door mid h ready left is found begins calm missed =
     by : (all : Connections) (waiting : List (List ℕ)) → all.waiting ≡ waiting → Knows h all
         → true ≡ is_some (next_connections all).present
         → Knows (joining h) (next_connections all) × ⊤
-        × HasTaken false true [] 1 0 all (next_connections all)
+        × HasTaken h.batches false true [] 1 0 all (next_connections all)
     by all [] waits knows q =
         let none : is_some (next_connections all).present ≡ false =
         ap (λ (ws : List (List ℕ)). is_some (next_connections
@@ -414,8 +461,8 @@ pub turns_ended : (door mid : Port) (h : Hearing) → IsReady (site door h) → 
     → TurnsTo (site door h) (site mid (spoilt h)) (Ok (Some (bad_behind h)))
 turns_ended door mid h ready left is found calm missed =
     let told = lift door.connections mid.connections next_connections
-    (λ all. false ≡ is_some all.present) h (spoilt h) (Tells h.receiver (bad_behind h))
-    (HasTaken false false [] 0 0) is found ready.sound.told
+    (λ all. false ≡ is_some all.present) h (spoilt h) (Tells h.batches h.receiver (bad_behind h))
+    (HasTaken h.batches false false [] 0 0) is found ready.sound.told
     (λ all knows q. by all all.waiting refl knows q) in
     record {
       turns = 0;
@@ -426,8 +473,9 @@ turns_ended door mid h ready left is found calm missed =
           owing = λ owes. absurd (true≢false (sym owes ∙ ready.paid));
           told = told.0;
         };
+        same = refl;
         told = subst (λ (a : Bool). IfBoth door.connections mid.connections
-            (HasTaken a a [] 0 0)) (sym left) told.2;
+            (HasTaken h.batches a a [] 0 0)) (sym left) told.2;
         faults_are = calm;
         missed_are = missed;
       };
@@ -441,8 +489,8 @@ turns_ended door mid h ready left is found calm missed =
     by : (all : Connections) (waiting : List (List ℕ)) → all.waiting ≡ waiting → Knows h all
         → false ≡ is_some (next_connections all).present
         → Knows (spoilt h) (next_connections all)
-        × Tells h.receiver (bad_behind h) (next_connections all)
-        × HasTaken false false [] 0 0 all (next_connections all)
+        × Tells h.batches h.receiver (bad_behind h) (next_connections all)
+        × HasTaken h.batches false false [] 0 0 all (next_connections all)
     by all [] waits knows q = ends h all waits left ready.goes_on knows (next_connections all) refl
     by all (bytes ∷ others) waits knows q =
         let some : is_some (next_connections all).present ≡ true =
@@ -463,7 +511,8 @@ pub turns_refused : (door mid : Port) (h : Hearing) (error : Failed) → IsReady
     → TurnsTo (site door h) (site mid h) (Err error)
 turns_refused door mid h error ready left is cause missed =
     let told = kept_told door.connections mid.connections h
-    (HasTaken h.connected h.connected [] 0 0) is ready.sound.told (none_taken h.connected) in
+    (HasTaken h.batches h.connected h.connected [] 0 0) is ready.sound.told
+        (none_taken h.batches h.connected) in
     record {
       faults = 0;
       goes = record {
@@ -472,6 +521,7 @@ turns_refused door mid h error ready left is cause missed =
           owing = ready.sound.owing;
           told = told.0;
         };
+        same = refl;
         told = told.1;
         faults_are = cause;
         missed_are = missed;
@@ -500,7 +550,8 @@ cut_goes : (door mid : Port) (h : Hearing) (line : List ℕ) (faults : ℕ) → 
     → Goes (site door h) (site mid (leaving h)) [] 0 faults 0
 cut_goes door mid h line faults ready connected read cut many =
     let told = lift door.connections mid.connections (with_taken line) (λ all. Cuts all faults) h
-    (leaving h) (λ all. ⊤) (HasTaken true false [] 0 faults) read.connections cut ready.sound.told
+    (leaving h) (λ all. ⊤)
+        (HasTaken h.batches true false [] 0 faults) read.connections cut ready.sound.told
     (λ all knows q.
     let done = cuts h all.past all.present all.waiting line faults ready.goes_on ready.paid
     connected read.plain read.ends.0 knows q in
@@ -511,8 +562,9 @@ cut_goes door mid h line faults ready connected read cut many =
         owing = λ owes. absurd (true≢false (sym owes ∙ ready.paid));
         told = told.0;
       };
+      same = refl;
       told = subst (λ (a : Bool). IfBoth door.connections mid.connections
-          (HasTaken a false [] 0 faults)) (sym connected) told.2;
+          (HasTaken h.batches a false [] 0 faults)) (sym connected) told.2;
       faults_are = many;
       missed_are = read.missed;
     }
@@ -632,10 +684,10 @@ gives_item was mid now turns item few going turned = record {
   tells = turned.tells;
 }
 
-error_told : {E : Type 0} (taken : ℕ) (error : E) (connections : Option Connections)
-    → IfSome connections (ResultTells taken (Err error))
-error_told taken error None = tt
-error_told taken error (Some all) = tt
+error_told : {E : Type 0} (b : Bool) (taken : ℕ) (error : E) (connections : Option Connections)
+    → IfSome connections (ResultTells b taken (Err error))
+error_told b taken error None = tt
+error_told b taken error (Some all) = tt
 
 pub fails_so : (was mid now : Site) (turns : ℕ) (error : Failed) → turns ≤ MAX_TURNS
     → Going was mid turns → TurnsTo mid now (Err error) → HasHeard was now (Err error)
@@ -649,13 +701,13 @@ fails_so was mid now turns error few going turned = record {
   over = turned.over;
   owes = turned.paid;
   left = turned.left;
-  tells = error_told now.hearing.receiver error now.door.connections;
+  tells = error_told now.hearing.batches now.hearing.receiver error now.door.connections;
 }
 
-spent_told : (taken : ℕ) (connections : Option Connections)
-    → IfSome connections (Tells taken cell.Spent)
-spent_told taken None = tt
-spent_told taken (Some all) = tt
+spent_told : (b : Bool) (taken : ℕ) (connections : Option Connections)
+    → IfSome connections (Tells b taken cell.Spent)
+spent_told b taken None = tt
+spent_told b taken (Some all) = tt
 
 pub is_spent : (was now : Site) (turns : ℕ) → turns ≡ MAX_TURNS → Going was now turns
     → HasHeard {E = Failed} was now (Ok cell.Spent)
@@ -668,22 +720,22 @@ is_spent was now turns all going = record {
   over = going.ready.goes_on;
   owes = going.ready.paid;
   left = tt;
-  tells = spent_told now.hearing.receiver now.door.connections;
+  tells = spent_told now.hearing.batches now.hearing.receiver now.door.connections;
 }
 
 -- ---- a cell that begins
 
-none_known : (connections : Option Connections) → IfSome connections (λ all. served all ≡ [])
-    → IfSome connections (Knows silent)
-none_known None none = tt
-none_known (Some all) none = knows_none all none
+none_known : (batches : Bool) (connections : Option Connections)
+    → IfSome connections (λ all. served all ≡ []) → IfSome connections (Knows (silent batches))
+none_known batches None none = tt
+none_known batches (Some all) none = knows_none batches all none
 
-pub sound_none : (door : Port) → IfSome door.connections (λ all. served all ≡ [])
-    → IsSound door silent
-sound_none door none = record {
+pub sound_none : (batches : Bool) (door : Port)
+    → IfSome door.connections (λ all. served all ≡ []) → IsSound door (silent batches)
+sound_none batches door none = record {
   unended = λ is. absurd (true≢false (sym is));
   owing = λ is. absurd (true≢false (sym is));
-  told = none_known door.connections none;
+  told = none_known batches door.connections none;
 }
 
 -- ---- as the code names them
@@ -694,12 +746,14 @@ is_connected true end waits other = refl
 is_connected false end waits other = absurd (other (waits refl).0)
 
 pub heard_by : (door mid : Port) (h k : Hearing) (line text : List ℕ) (item : Option CellNext)
-    → text ≡ line → k ≡ heard_text h (line_said text) → item ≡ item_heard h (line_said text)
+    → text ≡ line → k ≡ heard_text h (line_said h.batches text) → item
+        ≡ item_heard h (line_said h.batches text)
     → IsReady (site door h) → h.connected ≡ true → ReadsLine door mid line Whole
     → Hears (site door h) (site mid k) item
 heard_by door mid h k line text item same after gives ready connected read =
     subst (λ (x : Option CellNext). Hears (site door h) (site mid k) x) (sym gives)
-    (subst (λ (x : Hearing). Hears (site door h) (site mid x) (item_heard h (line_said text)))
+    (subst (λ (x : Hearing). Hears (site door h) (site mid x) (item_heard h
+        (line_said h.batches text)))
     (sym after)
     (hears_line door mid h text ready connected
     (subst (λ (l : List ℕ). ReadsLine door mid l Whole) (sym same) read)))

@@ -6,7 +6,7 @@ use Rattle.disk_core.specs.Doors.{Connection, Connections, served}
 use Rattle.lane_worker.specs.declared.types.CellNext.{CellNext}
 use Rattle.lane_worker.specs.declared.types.CellNext.TheVariants as cell
 use Rattle.remote_cell.specs.declared.items.Item.{Item}
-use Rattle.remote_cell.specs.declared.items.Item.TheVariants.{Gross, End}
+use Rattle.remote_cell.specs.declared.items.Item.TheVariants.{Gross, Batch, End}
 use Rattle.remote_cell.specs.declared.wire_lines.TheConstants.{MAX_LINE}
 use Rattle.remote_cell.specs.declared.turns.TheConstants.{MAX_TURNS}
 use Rattle.remote_cell.specs.Exchanges.{Line}
@@ -27,13 +27,16 @@ turns_of all = length (texts_on (served all)) + length (served all)
 
 -- ---- from one moment to another
 
--- these items were taken, in so many whole lines and connections; so many reads and writes failed,
--- each of which left a connection, and no more connections were left before they were done
-pub record HasTaken (was_connected now_connected : Bool) (given : List Item) (turns faults : ℕ)
+-- these items were taken, by who takes batches or doesn't, in so many whole lines and connections;
+-- so many reads and writes failed, each of which left a connection, and no more connections were
+-- left before they were done
+pub record HasTaken (batches was_connected now_connected : Bool) (given : List Item)
+    (turns faults : ℕ)
     (was now : Connections) : Type 0 where
-  pub given_is : given_items (served now) ≡ given_items (served was) ++ given
+  pub given_is : given_items batches (served now) ≡ given_items batches (served was) ++ given
   pub turns_are : turns_of now ≡ turns_of was + turns
-  pub undone_few : left_undone now_connected now ≤ left_undone was_connected was + faults
+  pub undone_few : left_undone batches now_connected now
+      ≤ left_undone batches was_connected was + faults
   pub faults_leave : length (those_left was_connected was) + faults
       ≤ length (those_left now_connected now)
 
@@ -48,8 +51,9 @@ IfBoth was now P = ⊥
 -- often the next connection couldn't be admitted
 pub record Goes (was now : Site) (given : List Item) (turns faults refused : ℕ) : Type 0 where
   pub sound : IsSound now.door now.hearing
+  pub same : now.hearing.batches ≡ was.hearing.batches
   pub told : IfBoth was.door.connections now.door.connections
-      (HasTaken was.hearing.connected now.hearing.connected given turns faults)
+      (HasTaken was.hearing.batches was.hearing.connected now.hearing.connected given turns faults)
   pub faults_are : FailedSoOften was.door.faults now.door.faults (faults + refused)
   pub missed_are : FailedSoOften was.door.missed now.door.missed refused
 
@@ -58,6 +62,7 @@ pub record Goes (was now : Site) (given : List Item) (turns faults refused : ℕ
 -- the items of what is given
 abbrev pub items_of : CellNext → List Item
 items_of (cell.Gross gross) = Gross gross ∷ []
+items_of (cell.Batch batch line) = Batch batch ∷ []
 items_of cell.End = End ∷ []
 items_of other = []
 
@@ -70,6 +75,7 @@ over_behind other = None
 -- whether what is given is acknowledged only when the next is asked for
 abbrev pub owes_behind : CellNext → Bool
 owes_behind (cell.Gross gross) = true
+owes_behind (cell.Batch batch line) = true
 owes_behind other = false
 
 -- the bytes taken from the present connection
@@ -83,23 +89,23 @@ pub record EndsWith (text : List ℕ) (all : Connections) : Type 0 where
   pub part : part_of (taken_now all) ≡ []
 
 -- the last line says this
-pub record LastSays (line : Line) (all : Connections) : Type 0 where
+pub record LastSays (batches : Bool) (line : Line) (all : Connections) : Type 0 where
   pub text : List ℕ
   pub ends : EndsWith text all
-  pub says : line_said text ≡ Some line
+  pub says : line_said batches text ≡ Some line
 
 -- the last line says nothing
-pub record LastSaysNothing (all : Connections) : Type 0 where
+pub record LastSaysNothing (batches : Bool) (all : Connections) : Type 0 where
   pub text : List ℕ
   pub ends : EndsWith text all
-  pub says : line_said text ≡ None
+  pub says : line_said batches text ≡ None
 
--- The next line is bad: it is of neither form; or more bytes have no LF than a line has; or there
+-- The next line is bad: it is of no form; or more bytes have no LF than a line has; or there
 -- is no connection more, and none waits. Its number is one more than that of the whole lines before
 -- it.
-abbrev pub IsBadAt : ℕ → Connections → Type 0
-IsBadAt line all =
-    (LastSaysNothing all × (line ≡ numbered (length (texts_on (served all)))))
+abbrev pub IsBadAt : Bool → ℕ → Connections → Type 0
+IsBadAt batches line all =
+    (LastSaysNothing batches all × (line ≡ numbered (length (texts_on (served all)))))
     ⊎ ((length (part_of (taken_now all)) ≡ MAX_LINE + 1)
     × (line ≡ numbered (length (texts_on (served all)) + 1)))
     ⊎ ((all.present ≡ None) × (all.waiting ≡ [])
@@ -107,11 +113,14 @@ IsBadAt line all =
 
 -- what the door tells where this is given: the item is that of the line just read, with the number
 -- of the items taken, and no byte behind its LF was taken
-abbrev pub Tells : ℕ → CellNext → Connections → Type 0
-Tells taken (cell.Gross gross) all = LastSays (taken, Gross gross) all
-Tells taken cell.End all = LastSays (taken, End) all
-Tells taken (cell.Bad line) all = IsBadAt line all
-Tells taken cell.Spent all = Unit {0}
+abbrev pub Tells : Bool → ℕ → CellNext → Connections → Type 0
+Tells batches taken (cell.Gross gross) all = LastSays batches (taken, Gross gross) all
+Tells batches taken (cell.Batch batch line) all =
+    LastSays batches (taken, Batch batch) all
+    × (line ≡ numbered (length (texts_on (served all))))
+Tells batches taken cell.End all = LastSays batches (taken, End) all
+Tells batches taken (cell.Bad line) all = IsBadAt batches line all
+Tells batches taken cell.Spent all = Unit {0}
 
 -- ---- a call
 
@@ -132,14 +141,14 @@ abbrev pub result_owes : {E : Type 0} → Result CellNext E → Bool
 result_owes (Ok item) = owes_behind item
 result_owes (Err error) = false
 
-abbrev pub ResultTells : {E : Type 0} → ℕ → Result CellNext E → Connections → Type 0
-ResultTells taken (Ok item) all = Tells taken item all
-ResultTells taken (Err error) all = Unit {0}
+abbrev pub ResultTells : {E : Type 0} → Bool → ℕ → Result CellNext E → Connections → Type 0
+ResultTells batches taken (Ok item) all = Tells batches taken item all
+ResultTells batches taken (Err error) all = Unit {0}
 
 -- One call: the items taken are longer by just what it gives; it looks at no more whole lines and
--- connections than its budget, and at just as many where it is spent; a weight is acknowledged only
--- when the next is asked for; and it fails exactly where the next connection couldn't be admitted,
--- behind those that were left.
+-- connections than its budget, and at just as many where it is spent; a weight or a batch is
+-- acknowledged only when the next is asked for; and it fails exactly where the next connection
+-- couldn't be admitted, behind those that were left.
 pub record HasHeard {E : Type 0} (was now : Site) (result : Result CellNext E) : Type 0 where
   pub turns : ℕ
   pub faults : ℕ
@@ -149,4 +158,5 @@ pub record HasHeard {E : Type 0} (was now : Site) (result : Result CellNext E) :
   pub over : now.hearing.over ≡ result_over result
   pub owes : now.hearing.owes ≡ result_owes result
   pub left : OnErr result (now.hearing.connected ≡ false)
-  pub tells : IfSome now.door.connections (ResultTells now.hearing.receiver result)
+  pub tells : IfSome now.door.connections (ResultTells now.hearing.batches
+      now.hearing.receiver result)

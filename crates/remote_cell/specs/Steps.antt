@@ -7,7 +7,7 @@ use Rattle.lane_worker.specs.declared.types.CellNext.{CellNext}
 use Rattle.lane_worker.specs.declared.types.CellNext.TheVariants as cell
 use Rattle.lane_worker.specs.CellLines.{next_line}
 use Rattle.remote_cell.specs.declared.items.Item.{Item}
-use Rattle.remote_cell.specs.declared.items.Item.TheVariants.{Gross, End}
+use Rattle.remote_cell.specs.declared.items.Item.TheVariants.{Gross, Batch, End}
 use Rattle.remote_cell.specs.declared.receiver.Heard as hears
 use Rattle.remote_cell.specs.declared.receiver.Heard.TheVariants.{Take, Again, Ahead}
 use Rattle.remote_cell.specs.declared.hearing.Hearing.{Hearing}
@@ -82,13 +82,15 @@ bad_behind h = cell.Bad (next_line h.lines)
 abbrev pub spoilt : Hearing → Hearing
 spoilt h = record h { over = Some (bad_behind h) }
 
--- what is given for an item
-abbrev pub next_given : Item → CellNext
-next_given (Gross gross) = cell.Gross gross
-next_given End = cell.End
+-- what is given for an item of the line of this number
+abbrev pub next_given : ℕ → Item → CellNext
+next_given line (Gross gross) = cell.Gross gross
+next_given line (Batch batch) = cell.Batch batch line
+next_given line End = cell.End
 
 abbrev pub with_given : Hearing → Item → Hearing
 with_given h (Gross gross) = h
+with_given h (Batch batch) = h
 with_given h End = record h { over = Some cell.End }
 
 -- what is known behind a line that was heard so
@@ -98,10 +100,10 @@ heard_line h Take item =
 heard_line h Again item = record h { lines = next_line h.lines; owes = true }
 heard_line h Ahead item = record h { lines = next_line h.lines }
 
--- what such a line gives
-abbrev pub item_given : hears.Heard → Item → Option CellNext
-item_given Take item = Some (next_given item)
-item_given other item = None
+-- what such a line of this number gives
+abbrev pub item_given : ℕ → hears.Heard → Item → Option CellNext
+item_given line Take item = Some (next_given line item)
+item_given line other item = None
 
 -- the same of a line of bytes
 abbrev pub heard_text : Hearing → Option Line → Hearing
@@ -110,7 +112,8 @@ heard_text h (Some line) = heard_line h (heard h.receiver line.0) line.1
 
 abbrev pub item_heard : Hearing → Option Line → Option CellNext
 item_heard h None = Some (bad_behind h)
-item_heard h (Some line) = item_given (heard h.receiver line.0) line.1
+item_heard h (Some line) =
+    item_given (next_line h.lines) (heard h.receiver line.0) line.1
 
 -- ---- a turn
 
@@ -121,10 +124,10 @@ pub record Acknowledged (was now : Site) : Type 0 where
   pub over : now.hearing.over ≡ was.hearing.over
   pub taken : now.hearing.receiver ≡ was.hearing.receiver
   pub paid : now.hearing.owes ≡ false
-  pub says : (line : Line) → IfSome was.door.connections (LastSays line)
-      → IfSome now.door.connections (LastSays line)
+  pub says : (line : Line) → IfSome was.door.connections (LastSays was.hearing.batches line)
+      → IfSome now.door.connections (LastSays now.hearing.batches line)
 
--- whether what was heard is acknowledged at once, as all but a weight and what is bad
+-- whether what was heard is acknowledged at once, as all but a weight, a batch and what is bad
 abbrev pub is_answered : Option CellNext → Bool
 is_answered None = true
 is_answered (Some cell.End) = true
@@ -150,7 +153,7 @@ pub record Gives (was now : Site) (item : CellNext) : Type 0 where
   pub over : now.hearing.over ≡ over_behind item
   pub owes : now.hearing.owes ≡ owes_behind item
   pub unspent : item ≡ cell.Spent → ⊥
-  pub tells : IfSome now.door.connections (Tells now.hearing.receiver item)
+  pub tells : IfSome now.door.connections (Tells now.hearing.batches now.hearing.receiver item)
 
 -- the next connection couldn't be admitted
 pub record Refuses (was now : Site) : Type 0 where

@@ -16,21 +16,21 @@ use Rattle.remote_cell.specs.WireLines.{line_said, acknowledgement}
 abbrev pub texts_on : List Connection → List (List ℕ)
 texts_on connections = flat_map (λ (c : Connection). whole_lines c.taken) connections
 
--- what the whole lines of a connection say
-abbrev pub connection_lines : Connection → List Line
-connection_lines c = filter_map line_said (whole_lines c.taken)
+-- what the whole lines of a connection say, where batches are taken or aren't
+abbrev pub connection_lines : Bool → Connection → List Line
+connection_lines batches c = filter_map (line_said batches) (whole_lines c.taken)
 
 -- the items taken of some connections, one after another
-abbrev pub given_items : List Connection → List Item
-given_items connections = taken (flat_map connection_lines connections)
+abbrev pub given_items : Bool → List Connection → List Item
+given_items batches connections = taken (flat_map (connection_lines batches) connections)
 
--- a line is of one of the two forms, and isn't too long
-abbrev pub IsGoodLine : List ℕ → Type 0
-IsGoodLine text = (length text ≤ MAX_LINE) × IsSome (line_said text)
+-- a line is of one of the forms, and isn't too long
+abbrev pub IsGoodLine : Bool → List ℕ → Type 0
+IsGoodLine batches text = (length text ≤ MAX_LINE) × IsSome (line_said batches text)
 
 -- nothing bad came on a connection
-pub record IsGood (c : Connection) : Type 0 where
-  pub lines : All IsGoodLine (whole_lines c.taken)
+pub record IsGood (batches : Bool) (c : Connection) : Type 0 where
+  pub lines : All (IsGoodLine batches) (whole_lines c.taken)
   pub part : length (part_of c.taken) ≤ MAX_LINE
 
 -- ---- what is written to them
@@ -44,35 +44,38 @@ line_acknowledgements taken (line ∷ lines) =
     (taken + length (heard_items (heard taken line.0) line.1)))
     ++ line_acknowledgements (taken + length (heard_items (heard taken line.0) line.1)) lines
 
-abbrev pub connection_acknowledgements : ℕ → Connection → List ℕ
-connection_acknowledgements taken c = line_acknowledgements taken (connection_lines c)
+abbrev pub connection_acknowledgements : Bool → ℕ → Connection → List ℕ
+connection_acknowledgements batches taken c =
+    line_acknowledgements taken (connection_lines batches c)
 
 -- to each of some connections its acknowledgements were written, or the first of these bytes
-abbrev pub AreAnswered : ℕ → List Connection → Type 0
-AreAnswered taken [] = Unit {0}
-AreAnswered taken (c ∷ connections) =
-    IsPrefixOf c.written (connection_acknowledgements taken c)
-    × AreAnswered (taken + length (line_items taken (connection_lines c))) connections
+abbrev pub AreAnswered : Bool → ℕ → List Connection → Type 0
+AreAnswered batches taken [] = Unit {0}
+AreAnswered batches taken (c ∷ connections) =
+    IsPrefixOf c.written (connection_acknowledgements batches taken c)
+    × AreAnswered batches (taken + length (line_items taken
+        (connection_lines batches c))) connections
 
 -- a connection is done: its bytes were taken to their end, and its acknowledgements were written
-abbrev pub is_done : ℕ → Connection → Bool
-is_done taken c =
-    nat_eq (length c.left) 0 && nat_eq (length c.written) (length (connection_acknowledgements taken c))
+abbrev pub is_done : Bool → ℕ → Connection → Bool
+is_done batches taken c =
+    nat_eq (length c.left) 0
+    && nat_eq (length c.written) (length (connection_acknowledgements batches taken c))
 
 -- how many of some connections aren't done
-abbrev pub undone : ℕ → List Connection → ℕ
-undone taken [] = 0
-undone taken (c ∷ connections) =
-    cond (is_done taken c) 0 1
-    + undone (taken + length (line_items taken (connection_lines c))) connections
+abbrev pub undone : Bool → ℕ → List Connection → ℕ
+undone batches taken [] = 0
+undone batches taken (c ∷ connections) =
+    cond (is_done batches taken c) 0 1
+    + undone batches (taken + length (line_items taken (connection_lines batches c))) connections
 
 -- the connections that were left, or are to be left: all but one that goes on
 abbrev pub those_left : Bool → Connections → List Connection
 those_left connected all = if connected then all.past else served all
 
 -- how many of them weren't done
-abbrev pub left_undone : Bool → Connections → ℕ
-left_undone connected all = undone 0 (those_left connected all)
+abbrev pub left_undone : Bool → Bool → Connections → ℕ
+left_undone batches connected all = undone batches 0 (those_left connected all)
 
 -- ---- a door and a cell
 
@@ -106,9 +109,16 @@ pub record Site : Type 0 where
 abbrev pub site : Port → Hearing → Site
 site door hearing = record { door = door; hearing = hearing }
 
--- nothing was heard yet
-abbrev pub silent : Hearing
-silent = record { receiver = 0; lines = 0; over = None; connected = false; owes = false }
+-- nothing was heard yet, by who takes batches or doesn't
+abbrev pub silent : Bool → Hearing
+silent batches = record {
+  receiver = 0;
+  lines = 0;
+  over = None;
+  connected = false;
+  owes = false;
+  batches = batches;
+}
 
 -- a count of lines: it stands still at the greatest number of 32 bits
 abbrev pub numbered : ℕ → ℕ
@@ -121,9 +131,10 @@ owed h = if h.owes then acknowledgement h.receiver else []
 -- what is known of the present connection: what was written to it is what its lines ask for, but
 -- for what is owed, and only a whole number of lines was taken
 pub record IsPresent (h : Hearing) (taken : ℕ) (c : Connection) : Type 0 where
-  pub begins : IsPrefixOf c.written (connection_acknowledgements taken c)
-  pub answered : h.connected ≡ true → c.written ++ owed h ≡ connection_acknowledgements taken c
-  pub good : h.over ≡ None → IsGood c
+  pub begins : IsPrefixOf c.written (connection_acknowledgements h.batches taken c)
+  pub answered : h.connected ≡ true
+      → c.written ++ owed h ≡ connection_acknowledgements h.batches taken c
+  pub good : h.over ≡ None → IsGood h.batches c
   pub at_line : h.over ≡ None → h.connected ≡ true → part_of c.taken ≡ []
 
 abbrev pub KnowsPresent : Hearing → ℕ → Option Connection → Type 0
@@ -132,11 +143,11 @@ KnowsPresent h taken (Some c) = IsPresent h taken c
 
 -- what a cell knows is what its door tells
 pub record Knows (h : Hearing) (all : Connections) : Type 0 where
-  pub taken_is : h.receiver ≡ length (given_items (served all))
+  pub taken_is : h.receiver ≡ length (given_items h.batches (served all))
   pub lines_are : h.over ≡ None → h.lines ≡ numbered (length (texts_on (served all)))
-  pub answered : AreAnswered 0 all.past
-  pub good : h.over ≡ None → All IsGood all.past
-  pub present : KnowsPresent h (length (given_items all.past)) all.present
+  pub answered : AreAnswered h.batches 0 all.past
+  pub good : h.over ≡ None → All (IsGood h.batches) all.past
+  pub present : KnowsPresent h (length (given_items h.batches all.past)) all.present
 
 -- so it is where the door tells its connections; a connection that isn't to be left goes on, and
 -- only such a one may be owed an acknowledgement

@@ -16,6 +16,8 @@ pub(crate) struct Hearing {
     pub connected: bool,
     /// Whether an acknowledgement is still to be written to it.
     pub owes: bool,
+    /// Whether a line may name a batch; else such a line is bad.
+    pub batches: bool,
 }
 
 impl Hearing {
@@ -25,8 +27,8 @@ impl Hearing {
     ghost use Rattle.remote_cell.specs.Steps.{spoilt, bad_behind, next_given, with_given, heard_line, item_given, heard_text, item_heard};
 
     /// Nothing was heard yet.
-    pub fn new() -> Self
-        ensures { result ≡ silent }
+    pub fn new(batches: bool) -> Self
+        ensures { result ≡ silent batches }
     {
         Hearing {
             receiver: Receiver::new(),
@@ -34,15 +36,16 @@ impl Hearing {
             over: None,
             connected: false,
             owes: false,
+            batches,
         }
     }
 
     /// Hears a whole line, its LF left out. Tells what the cell gives, if this ends its call.
     pub fn hear(&mut self, text: &[u8]) -> Option<CellNext>
-        ensures after { self.new ≡ heard_text self.old (line_said text.now) }
-        ensures item { result ≡ item_heard self.old (line_said text.now) }
+        ensures after { self.new ≡ heard_text self.old (line_said self.old.batches text.now) }
+        ensures item { result ≡ item_heard self.old (line_said self.old.batches text.now) }
     {
-        match read_text(text) {
+        match read_text(text, self.batches) {
             Some((number, item)) => self.hear_line(number, item),
             None => Some(self.spoil()),
         }
@@ -82,10 +85,14 @@ impl Hearing {
     // Gives an item; behind the end the same is given at each call.
     fn give(&mut self, item: Item) -> CellNext
         ensures after { self.new ≡ with_given self.old item }
-        ensures item { result ≡ next_given item }
+        ensures item { result ≡ next_given self.old.lines item }
     {
         match item {
             Item::Gross(gross) => CellNext::Gross(gross),
+            Item::Batch(batch) => CellNext::Batch {
+                batch,
+                line: self.lines,
+            },
             Item::End => {
                 self.over = Some(CellNext::End);
                 CellNext::End

@@ -1,3 +1,4 @@
+use book_words::Name;
 use std::marker::Model;
 
 /// What a scale sends in one line.
@@ -5,6 +6,8 @@ use std::marker::Model;
 pub enum Item {
     /// The gross of a pack in mg.
     Gross(i64),
+    /// The packs that follow are for this batch.
+    Batch(Name),
     /// There are no more weights.
     End,
 }

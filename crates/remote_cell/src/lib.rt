@@ -1,6 +1,6 @@
-//! A scale on a line that isn't to be trusted. It sends its weights as numbered lines, over
-//! connections that may lose them, give them again or cut them; what is taken of them is what it
-//! sent, in order and each once.
+//! A scale on a line that isn't to be trusted. It sends its weights, and the batches that they are
+//! for, as numbered lines, over connections that may lose them, give them again or cut them; what
+//! is taken of them is what it sent, in order and each once.
 #![tactic(auto)]
 
 mod acknowledging;

@@ -5,12 +5,12 @@ use disk_core::{Door, Failed};
 use lane_worker::{Cell, CellNext};
 use std::marker::Model;
 
-/// A cell whose scale sends numbered lines over the connections of a door: `N GRAMS` or `N end`, of
-/// at most `MAX_LINE` bytes, and an LF. The line of the next number is taken; one that was taken
-/// before is acknowledged again by `ack n`, where `n` is the number of items taken, and one that is
-/// ahead is passed over. A weight is acknowledged when the next one is asked for, so that its row
-/// is kept by then, or its lane has ended. A connection is left at its end and where it fails; a
-/// line that this cuts is dropped.
+/// A cell whose scale sends numbered lines over the connections of a door: `N GRAMS`, `N end` or,
+/// where it takes batches, `N batch NAME`, of at most `MAX_LINE` bytes, and an LF. The line of the
+/// next number is taken; one that was taken before is acknowledged again by `ack n`, where `n` is the
+/// number of items taken, and one that is ahead is passed over. A weight or a batch is acknowledged
+/// when the next item is asked for, so that its rows are kept by then, or its lane has ended. A
+/// connection is left at its end and where it fails; a line that this cuts is dropped.
 ///
 /// What isn't a line is bad, and so is the end of the connections before `end` was taken; from then
 /// on, and behind `end`, each call gives the same and makes no call on the door. After `MAX_TURNS`
@@ -37,15 +37,15 @@ impl<O: Door> RemoteCell<O> {
     ghost use Rattle.disk_core.specs.Doors.{served};
     ghost use Rattle.remote_cell.specs.Told.{silent};
 
-    /// A cell over a door, which has served no connection yet where it tells its bytes. It takes no
-    /// memory.
-    pub fn new(door: O) -> Self
+    /// A cell over a door, which has served no connection yet where it tells its bytes. It takes
+    /// batches, or a line that names one is bad. It takes no memory.
+    pub fn new(door: O, batches: bool) -> Self
         requires { IfSome (O.connections door) (λ all. served all ≡ []) }
-        ensures { result ≡ record { door = door; hearing = silent; faults = 0 } }
+        ensures { result ≡ record { door = door; hearing = silent batches; faults = 0 } }
     {
         RemoteCell {
             door,
-            hearing: Hearing::new(),
+            hearing: Hearing::new(batches),
             faults: 0,
         }
     }
@@ -88,4 +88,7 @@ impl<O: Door> Cell for RemoteCell<O> {
         }
         item
     }
+
+    // Whether it takes batches is said where it is made.
+    fn expect_batches(&mut self) {}
 }

@@ -28,8 +28,8 @@ fn acknowledge<O: Door>(door: &mut O, hearing: &mut Hearing)
     hearing.connected = send_acknowledgement(door, hearing.receiver.taken()).is_ok();
 }
 
-// Whether what was heard is acknowledged at once: that of a weight waits until the next is asked
-// for, and what is bad has none.
+// Whether what was heard is acknowledged at once: that of a weight or of a batch waits until the
+// next is asked for, and what is bad has none.
 fn is_answered(item: Option<CellNext>) -> bool
     ensures { result ≡ is_answered item }
 {

@@ -7,13 +7,24 @@ use std::alloc::Global;
 /// A cell over a door in memory.
 pub(crate) type TestCell = RemoteCell<ListDoor>;
 
-/// A cell to whose door connections with these bytes come, of which these calls fail.
+/// A cell that takes no batches, to whose door connections with these bytes come, of which these
+/// calls fail.
 pub(crate) fn cell_of(alloc: Global, connections: &[&[u8]], fails: &[u32]) -> TestCell {
+    any_cell_of(alloc, connections, fails, false)
+}
+
+/// Such a cell, which takes batches or does not.
+pub(crate) fn any_cell_of(
+    alloc: Global,
+    connections: &[&[u8]],
+    fails: &[u32],
+    batches: bool,
+) -> TestCell {
     let mut all = Vec::new(alloc);
     for bytes in connections {
         let _ = all.push(copy(alloc, bytes));
     }
-    RemoteCell::new(ListDoor::new(alloc, all, copy(alloc, fails)))
+    RemoteCell::new(ListDoor::new(alloc, all, copy(alloc, fails)), batches)
 }
 
 /// Whether a cell gives these items next, one after another.

@@ -20,7 +20,10 @@ fn say(rt: HostRuntime, port: u16, bytes: &[u8]) -> Result<TcpStream, Fail> {
 fn end_over(alloc: Global, door: TcpDoor<HostRuntime>) -> Option<LaneEnd> {
     let batch = Name::new(b"A".as_slice())?;
     let mut hall = open_book(alloc, &[], 4, 1)?;
-    let mut lane = PairLane::new(RemoteCell::new(door), ListGate::new(alloc, Vec::new(alloc)));
+    let mut lane = PairLane::new(
+        RemoteCell::new(door, false),
+        ListGate::new(alloc, Vec::new(alloc)),
+    );
     let end = run_lane(&mut hall, &mut lane, 1, batch);
     let _ = hall.back().close();
     Some(end)

@@ -244,6 +244,7 @@ module _ {D : Type 0} (g : disk.Ghosts D) (reads_image : (d : D) → WhereTold (
 
   none_at : (ending : WeighingEnd) → faults_at (weighing_stop ending) ≡ 0
   none_at ends.End = refl
+  none_at (ends.Change batch line) = refl
   none_at (ends.Bad line) = refl
   none_at ends.Spent = refl
   none_at ends.CellFailed = refl
