@@ -1,12 +1,11 @@
 -- How the works and waits of a changing lane go on by one more.
-use Rattle.std.proofs.Common.{◌≡◌, ◌⊎◌, inl, inr, ⊎_elim, ℕ, suc, ◌+◌, ◌-◌, ◌^◌, ◌<◌, ◌≤◌, min, true, false, nat_lt, List, [], ◌∷◌, ◌++◌, length, take, flat_map, Option, Some, None, refl, sym, ◌∙◌, ap, subst, arith, append_assoc, append-nil, length-append}
+use Rattle.std.proofs.Common.{◌≡◌, ◌⊎◌, inl, inr, ⊎_elim, ℕ, ◌+◌, ◌-◌, ◌^◌, ◌<◌, ◌≤◌, min, true, false, List, [], ◌∷◌, ◌++◌, length, take, flat_map, Option, Some, None, refl, sym, ◌∙◌, ap, subst, arith, append_assoc, append-nil, length-append}
 use Rattle.std.specs.List.{sum_by}
 use Rattle.std.proofs.lemmas.Bool.{ltb-true}
 use Rattle.std.proofs.lemmas.Bool.Decides.{nat_tests}
 use Rattle.std.proofs.lemmas.Grind.{flat_map-append}
 use Rattle.std.proofs.lemmas.List.Sums.{sum_by-append}
-use Rattle.std.proofs.Math.Seq.{take-append-add, take-length}
-use Rattle.std.proofs.lemmas.List.{take-append-le}
+use Rattle.std.proofs.Math.Seq.{take-append-add}
 use Rattle.book_words.specs.declared.name.Name.{Name}
 use Rattle.book_words.specs.declared.act.Ask.{Ask}
 use Rattle.book_words.specs.declared.caller.AskError.{AskError}
@@ -18,12 +17,12 @@ use Rattle.lane_worker.specs.declared.types.CellNext.TheVariants as item
 use Rattle.lane_worker.specs.declared.ending.LaneEnd.{LaneEnd}
 use Rattle.lane_worker.specs.declared.ending.LaneStop.{LaneStop}
 use Rattle.lane_worker.specs.declared.ending.LaneStop.TheVariants as stop
-use Rattle.lane_worker.specs.Works.{Site, Work, BreaksAt, IsWork, Finishes, BreaksOff, asks_of_work}
+use Rattle.lane_worker.specs.Works.{Site, BreaksAt, IsWork, Finishes, BreaksOff, asks_of_work}
 use Rattle.lane_changes.specs.declared.changing.TheConstants.{MAX_STINTS}
 use Rattle.lane_changes.specs.declared.course.Course.{Course}
 use Rattle.lane_changes.specs.declared.types.Next.{Next}
 use Rattle.lane_changes.specs.declared.types.Next.TheVariants.{Works, Waits, Ends}
-use Rattle.lane_changes.specs.Stints.{LaneDeed, Stint, WorkStint, WaitStint, FailedStint, behind, Fits, AreStints, asks_in, opened_in, item_weight, weights_in, refused_in, stop_in, last_stop, first_of, first_refused, end_stop}
+use Rattle.lane_changes.specs.Stints.{Stint, WorkStint, WaitStint, FailedStint, behind, Fits, AreStints, asks_in, opened_in, item_weight, weights_in, refused_in, stop_in, last_stop, first_of, first_refused, end_stop}
 use Rattle.lane_changes.specs.Changes.{WentAt, BrokeAt, DidOnce, Did, HasChanged}
 use Rattle.lane_changes.specs.Steps.{may_go, goes_on, course_end, IsUnbegun, HasPassed, IsCourse}
 
@@ -85,8 +84,7 @@ take_first : (answered : List Ask) (next : Ask) (rest : List Ask) → take (leng
 take_first answered next rest = ap (take (length answered + 1)) (append_assoc answered (next ∷ []) rest) ∙ take-append-add answered (next ∷ rest) 1
 
 take_all : (asks : List Ask) → take (length asks + 1) asks ≡ asks
-take_all [] = refl
-take_all (a ∷ asks) = ap (λ (r : List Ask). a ∷ r) (take_all asks)
+take_all asks = ap (take (length asks + 1)) (sym (append-nil asks)) ∙ take-append-add asks [] 1 ∙ append-nil asks
 
 -- a worker was reached by just the asks that are told of its work
 pub work_reached : {C : Type 0} (asks : caller.Ghosts C) → IsReached asks.later → (first last : C) (lane : ℕ) (batch : Name) (was now : Site) (end : LaneEnd)
@@ -94,8 +92,8 @@ pub work_reached : {C : Type 0} (asks : caller.Ghosts C) → IsReached asks.late
     → asks.later first last (asks_in lane (WorkStint (record { batch = batch; work = is.work; end = end })))
 work_reached asks reached first last lane batch was now end is = by_stop is.stops
   where
-    all = asks_of_work lane batch is.work
-    by_stop : (Finishes (asks.later first last) all is.work end.stop ⊎ BreaksOff (BreaksAt asks first last) all is.work end.stop) → asks.later first last (take (length is.work.answered + 1) all)
+    by_stop : (Finishes (asks.later first last) (asks_of_work lane batch is.work) is.work end.stop ⊎ BreaksOff (BreaksAt asks first last) (asks_of_work lane batch is.work) is.work end.stop)
+        → asks.later first last (take (length is.work.answered + 1) (asks_of_work lane batch is.work))
     by_stop (inl f) = subst (asks.later first last) (sym (ap (take (length is.work.answered + 1)) f.whole ∙ take_all is.work.answered)) f.later
     by_stop (inr b) = subst (asks.later first last) (sym (ap (take (length is.work.answered + 1)) b.first.1 ∙ take_first is.work.answered b.next b.first.0))
         (reached.by_both first b.broke.between last is.work.answered (b.next ∷ []) b.broke.before b.broke.later)
@@ -125,6 +123,10 @@ work_once asks first last lane batch was now end before behind is = record {
 }
 
 -- ---- the begin and the end
+
+-- a lane is as it was, where its cell has only heard that it changes
+pub same_site : (was now : Site) → now.caller ≡ was.caller → now.left ≡ was.left → now.cell_faults ≡ was.cell_faults → now.opened ≡ was.opened → now.gate_faults ≡ was.gate_faults → now ≡ was
+same_site was now caller left cell opened gate = λ i. record { caller = caller i; left = left i; cell_faults = cell i; opened = opened i; gate_faults = gate i }
 
 pub course_begins : (Reached : List Ask → Type 0) (Went : Known → Known → List Ask → Type 0) (Broke : Known → Known → List Ask → Ask → AskError → Type 0) (was : Site) (lane : ℕ) (course : Course)
     → IsUnbegun course → Reached [] → IsCourse Reached Went Broke was was lane course

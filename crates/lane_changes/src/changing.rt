@@ -125,6 +125,25 @@ fn go_on<C: Caller, L: Lane, N: ChangeNotices>(
     }
 }
 
+// Works and waits, until the lane ends or has reached its bound.
+fn change_on<C: Caller, L: Lane, N: ChangeNotices>(
+    caller: &mut C,
+    lane: &mut L,
+    number: u8,
+    notices: &N,
+) -> LaneEnd
+    ensures changed { HasChanged (C.later caller.old caller.new) (WentAt C.Caller)
+        (BrokeAt C.Caller) (site C.Caller L.Cell L.Gate caller.old lane.old)
+        (site C.Caller L.Cell L.Gate caller.new lane.new) number result }
+{
+    let mut course = Course::new();
+    'changing: while course.goes_on() {
+        go_on(caller, lane, number, notices, &mut course);
+    }
+    tell_weights(number, course.since, notices);
+    course.end()
+}
+
 /// Works a lane for the batches that its cell gives, one after another: the weights behind a batch
 /// are weighed for it. The next batch ends a work as the end of the cell does, so that nothing is
 /// voided, and the work for it begins. Where the book refuses to start it by 6, 14, 15 or 19, the
@@ -143,10 +162,6 @@ pub fn run_changes<C: Caller, L: Lane, N: ChangeNotices>(
         (BrokeAt C.Caller) (site C.Caller L.Cell L.Gate caller.old lane.old)
         (site C.Caller L.Cell L.Gate caller.new lane.new) number result }
 {
-    let mut course = Course::new();
-    'changing: while course.goes_on() {
-        go_on(caller, lane, number, notices, &mut course);
-    }
-    tell_weights(number, course.since, notices);
-    course.end()
+    lane.expect_batches();
+    change_on(caller, lane, number, notices)
 }

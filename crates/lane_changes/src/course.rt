@@ -97,7 +97,11 @@ fn item_weight(item: CellNext) -> u32
 
 // How many weights came since a lane waits, behind one more or something else.
 fn since_behind(since: u32, weight: u32) -> u32 {
-    if weight > 0 { since.saturating_add(1) } else { 0 }
+    if weight > 0 {
+        since.saturating_add(1)
+    } else {
+        0
+    }
 }
 
 // The first of two refusals.

@@ -1,5 +1,4 @@
-use Rattle.std.proofs.Common.{List, refl, sym, subst, append-nil}
-use Rattle.book_words.specs.declared.act.Ask.{Ask}
+use Rattle.std.proofs.Common.{refl, sym, subst, append-nil}
 use Rattle.lane_worker.specs.Works.{site}
 use Rattle.lane_changes.specs.declared.types.Next.{Next}
 use Rattle.lane_changes.specs.Stints.{WaitStint, FailedStint, Fits}
@@ -10,8 +9,8 @@ use Rattle.lane_changes.proofs.changing.wait.Goals as goal
 pub add_item-requires-clause-few : goal.add_item-requires-clause-few
 add_item-requires-clause-few g c = room_left c.args.course.now c.requires.goes_on
 
-pub add_failure-requires-clause-few : goal.add_failure-requires-clause-few
-add_failure-requires-clause-few g c = room_left c.args.course.now c.requires.goes_on
+pub add_failure-requires : goal.add_failure-requires
+add_failure-requires g c = record { few = room_left c.args.course.now c.requires.goes_on }
 
 pub returns-in-Ok-clause-weights : goal.returns-in-Ok-clause-weights
 returns-in-Ok-clause-weights g c = weights_few c.args.course.now c.add_item.new.self (WaitStint c.in-Ok.item) c.add_item.ensures c.requires.weights

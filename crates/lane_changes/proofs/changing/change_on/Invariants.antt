@@ -3,7 +3,7 @@ use Rattle.lane_worker.specs.Works.{site}
 use Rattle.lane_changes.specs.declared.changing.TheConstants.{MAX_STINTS}
 use Rattle.lane_changes.specs.Changes.{WentAt, BrokeAt}
 use Rattle.lane_changes.specs.Steps.{IsCourse}
-use Rattle.lane_changes.proofs.changing.run_changes.Given as goal
+use Rattle.lane_changes.proofs.changing.change_on.Given as goal
 
 -- the lane has come so far
 abbrev pub invariant-changing : goal.invariant-changing
