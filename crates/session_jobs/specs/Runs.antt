@@ -35,17 +35,27 @@ pub record BrokeBefore (Reached : List Ask → Type 0) (room : ℕ) (first last 
   pub used : why ≡ error.NoMemory → weighs next.want ≡ true → last.faults < FAULTS_END
       → room ≤ length last.seen
 
+-- what the asks were isn't told
+abbrev pub AnyAsks : List Ask → Type 0
+AnyAsks asks = ⊤
+
+-- nor what they were between two moments
+abbrev pub AnyBetween : Known → Known → List Ask → Type 0
+AnyBetween was now asks = ⊤
+
+-- a caller, of which this was known at two moments, went on between them and then had an error
+abbrev pub BrokeBetween : ℕ → Known → Known → List Ask → Ask → AskError → Type 0
+BrokeBetween room was now answered next why = BrokeBefore AnyAsks room was now answered next why
+
 -- A work was done by a caller beside others, who ask between its asks. `Reached` says what all asks
 -- of the caller were.
 abbrev pub IsDoneByCaller : {L O : Type 0} → (List Ask → Type 0) → ℕ → (Known → L → lanes.Site)
     → (Known → O → doors.Site) → Known → Known → Work L O → Work L O → Type 0
 IsDoneByCaller Reached room lane_at door_at first last was now =
-    IsDone Reached (BrokeBefore Reached room first last) lane_at door_at first last was now
+    IsDone Reached (BrokeBefore Reached room first last) AnyBetween (BrokeBetween room) lane_at
+    door_at first last was now
 
 -- the same, where it isn't told what they were
-abbrev pub AnyAsks : List Ask → Type 0
-AnyAsks asks = ⊤
-
 abbrev pub IsDoneBesideOthers : {L O : Type 0} → ℕ → (Known → L → lanes.Site)
     → (Known → O → doors.Site) → Known → Known → Work L O → Work L O → Type 0
 IsDoneBesideOthers room lane_at door_at first last was now =

@@ -4,11 +4,10 @@ use Rattle.book_words.specs.declared.act.Entry.{Entry}
 use Rattle.book_words.specs.Callers.{Known}
 use Rattle.shared_book.specs.PassLaws.{is_reached}
 use Rattle.shared_book.specs.Passes.{HasNoted, known_of, room_of}
-use Rattle.shared_book.proofs.MetPasses.{met_by_asks, used_by_ask}
 use Rattle.turn_pass.specs.History.{PassState}
-use Rattle.session_jobs.specs.Runs.{IsDoneByCaller}
+use Rattle.session_jobs.specs.Runs.{AnyAsks, BrokeBetween, IsDoneByCaller}
 use Rattle.session_jobs.specs.Works.{lane_site, door_site}
-use Rattle.session_jobs.proofs.WorkLemmas.{beside, lacked}
+use Rattle.session_jobs.proofs.WorkLemmas.{beside, broke_before}
 use Rattle.session_jobs.proofs.job.Job.run.Goals as goal
 
 pub returns-in-Some : goal.returns-in-Some
@@ -26,20 +25,23 @@ returns-in-Some g c =
     let now = c.run.new.self in
     let done : IsDoneByCaller (HasNoted begun.notes last.notes) (room_of s) lane_at door_at
     (known_of s begun) (known_of s last) was now =
-    beside _ (HasNoted begun.notes last.notes) _ (room_of s) lane_at door_at (known_of s begun)
+    beside _ (HasNoted begun.notes last.notes) _ _ _ (room_of s) lane_at door_at (known_of s begun)
     (known_of s last) (λ asks reached. reached.count)
     (λ answered next why broke.
     let between : P = broke.between in
-    record {
-      between = known_of s between;
-      before = met_by_asks (room_of s) (known_of s begun) (known_of s between) answered
-          broke.before.asked;
-      reached = ((is_reached s).by_both begun between last answered (next ∷ []) broke.before
-          broke.later).count;
-      answer = broke.answer;
-      used = lacked (room_of s) (known_of s between) (known_of s last) next why broke.answer
-          (used_by_ask (room_of s) (known_of s between) (known_of s last) next broke.later.asked);
-    }) was now c.run.ensures.done in
+    broke_before s (HasNoted begun.notes last.notes) begun between last answered next why broke.before
+    broke.later broke.answer
+    ((is_reached s).by_both begun between last answered (next ∷ []) broke.before broke.later).count)
+    (λ was now answered next why broke.
+    let one : P = broke.first in
+    let other : P = broke.last in
+    let between : P = broke.breaks.between in
+    subst (λ (k : Known). BrokeBetween (room_of s) k now answered next why) broke.known_first
+    (subst (λ (k : Known). BrokeBetween (room_of s) (known_of s one) k answered next why)
+    broke.known_last
+    (broke_before s AnyAsks one between other answered next why broke.breaks.before
+    broke.breaks.later broke.breaks.answer tt)))
+    was now c.run.ensures.done in
     record {
       run = record {
         first = first;
