@@ -1,8 +1,8 @@
 use crate::halls::{MemoryEnd, book_of, only, run};
 use disk_core::{MemorySink, QuietSource};
-use lane_worker::CellNext::{Bad, Gross, Spent};
-use lane_worker::{CellNext, LaneStop};
-use memory_hall::{copy, disk_of, lanes_of};
+use lane_worker::LaneStop;
+use memory_hall::CellItem::{Bad, Gross, Spent};
+use memory_hall::{CellItem, copy, disk_of, lanes_of};
 use std::alloc::Global;
 use std::test::Fail;
 
@@ -14,6 +14,7 @@ enum Stopped {
     Gate,
     // The line that isn't a weight.
     Bad(u32),
+    Idle(u32),
     // The number of the refusal, and how many rows there were.
     Refused(u8, u32),
     Disk,
@@ -27,7 +28,8 @@ fn told(stop: &LaneStop) -> Stopped {
         LaneStop::Done => Stopped::Done,
         LaneStop::Cell => Stopped::Cell,
         LaneStop::Gate => Stopped::Gate,
-        LaneStop::Bad { line } => Stopped::Bad(*line),
+        LaneStop::Bad { line } | LaneStop::Change { line, .. } => Stopped::Bad(*line),
+        LaneStop::Idle { weights } => Stopped::Idle(*weights),
         LaneStop::Refused(refused) => Stopped::Refused(refused.refusal.number(), refused.at),
         LaneStop::DiskFault => Stopped::Disk,
         LaneStop::NoMemory => Stopped::Memory,
@@ -42,7 +44,7 @@ type Fails = (u32, u32, u32, u32);
 // A run with lanes: what is handed in, and what comes of it.
 struct Case {
     // What the cell of each lane gives.
-    cells: &'static [&'static [CellNext]],
+    cells: &'static [&'static [CellItem]],
     fails: Fails,
     script: &'static str,
     // What is printed.

@@ -4,8 +4,7 @@ use book_words::Entry;
 use disk_core::{Keep, ListDoor, MemoryDisk, MemorySink, QuietSource};
 use hall_limits::{MAX_DOOR, MAX_LANE};
 use hall_top::{Ended, NoNotices, hall, hall_alone};
-use lane_worker::CellNext;
-use memory_hall::{MemoryLane, copy, disk_of, doors_of, lanes_of, words_of};
+use memory_hall::{CellItem, MemoryLane, copy, disk_of, doors_of, lanes_of, words_of};
 use std::alloc::Global;
 use std::sync::Wait;
 use std::thread::Threads;
@@ -62,7 +61,7 @@ pub fn serve<R: Threads + Wait + Sync>(rt: &R, alloc: Global, disk: MemoryDisk) 
     let words = words_of(alloc, &["serve"]);
     let mut input = QuietSource::new(copy(alloc, PLAN));
     let mut output = MemorySink::new(alloc, Vec::new(alloc));
-    let mut lanes = lanes_of(alloc, &[&[CellNext::Gross(260_000)]], &[], &[]);
+    let mut lanes = lanes_of(alloc, &[&[CellItem::Gross(260_000)]], &[], &[]);
     lanes.truncate(usize::from(MAX_LANE));
     let mut doors = doors(alloc);
     doors.truncate(usize::from(MAX_DOOR));

@@ -71,6 +71,8 @@ impl<'a> Cell for MeetingCell<'a> {
         self.given += 1;
         Ok(CellNext::Gross(gross(self.lane, self.given)))
     }
+
+    fn expect_batches(&mut self) {}
 }
 
 /// A door to one connection, which waits before its first byte.

@@ -1,5 +1,5 @@
 use crate::halls::{CALM, Case, ONE_LANE, SUMMARY, ends_so, output_of, play};
-use lane_worker::CellNext::{Bad, Gross, Spent};
+use memory_hall::CellItem::{Bad, Gross, Spent};
 use std::alloc::Global;
 use std::sync::Wait;
 use std::test::Fail;

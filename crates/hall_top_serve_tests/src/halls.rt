@@ -1,8 +1,7 @@
 use disk_core::{ListDoor, MemoryDisk, MemorySink, QuietSource};
 use hall_limits::{MAX_DOOR, MAX_LANE};
 use hall_top::{Ended, NoNotices, hall};
-use lane_worker::CellNext;
-use memory_hall::{MemoryLane, copy, disk_of, doors_of, lanes_of, words_of};
+use memory_hall::{CellItem, MemoryLane, copy, disk_of, doors_of, lanes_of, words_of};
 use std::alloc::Global;
 use std::sync::Wait;
 use std::thread::Threads;
@@ -33,7 +32,7 @@ pub const SUMMARY: &[u8] = b"GET /summary HTTP/1.1\r\n\r\n";
 pub struct Case {
     pub plan: &'static str,
     /// What the cell of each lane gives.
-    pub cells: &'static [&'static [CellNext]],
+    pub cells: &'static [&'static [CellItem]],
     /// The calls of each cell that fail.
     pub cell_fails: &'static [u32],
     /// The calls of each gate that fail.

@@ -1,5 +1,5 @@
 use crate::halls::{CALM, Case, MemoryEnd, ONE_LANE, SUMMARY, ends_so, output_of, play};
-use lane_worker::CellNext::Gross;
+use memory_hall::CellItem::Gross;
 use std::alloc::Global;
 use std::sync::Wait;
 use std::test::Fail;

@@ -1,6 +1,7 @@
 use crate::halls::{CALLS, Given, NONE, ROWS, Seen, work_twice};
 use book_words::Prior;
-use lane_worker::{CellNext, LaneEnd, LaneStop};
+use lane_worker::{LaneEnd, LaneStop};
+use memory_hall::CellItem;
 use std::alloc::Global;
 use std::test::Fail;
 
@@ -9,7 +10,7 @@ const COUNT: u32 = 20;
 // Twenty packs, which all pass. The worker stops the lane (row 6), starts it (row 7), weighs them,
 // and stops it.
 const TWENTY: Given<'static> = Given {
-    items: &[CellNext::Gross(260_000); 20],
+    items: &[CellItem::Gross(260_000); 20],
     ..NONE
 };
 

@@ -1,6 +1,6 @@
 use book_words::{Act, Name, Prior};
 use lane_worker::{Cell, CellNext, LaneEnd, run_lane};
-use memory_hall::{MemoryCaller, MemoryLane, lane_of, open_book};
+use memory_hall::{CellItem, MemoryCaller, MemoryLane, lane_of, open_book};
 use std::alloc::Global;
 
 /// The rows that the hall has before a worker comes: lane 1 runs for batch A.
@@ -15,7 +15,7 @@ pub(crate) const CALLS: u32 = 24;
 pub(crate) struct Given<'g> {
     pub(crate) number: u8,
     pub(crate) batch: &'g [u8],
-    pub(crate) items: &'g [CellNext],
+    pub(crate) items: &'g [CellItem],
     pub(crate) cell_fails: &'g [u32],
     pub(crate) gate_fails: &'g [u32],
 }

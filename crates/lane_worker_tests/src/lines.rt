@@ -5,7 +5,7 @@ use disk_core::{Failed, MemorySink, MemorySource, Source};
 use lane_worker::{
     Cell, CellNext, EitherCell, LaneEnd, LaneStop, LineCell, LineGate, ListCell, PairLane, run_lane,
 };
-use memory_hall::copy;
+use memory_hall::{CellItem, copy};
 use std::alloc::Global;
 use std::test::Fail;
 
@@ -69,40 +69,161 @@ const LONG_LINE: &[u8] = b"00000000000000000000000000000000000000000000000000000
 00000000000000000000000000000000000000000000000000000000000000001\n253\r\n";
 
 // The bytes of a cell, and what it gives, call by call.
-const LINES: [(&[u8], [CellNext; 4]); 10] = [
-    (b"", [End, End, End, End]),
-    (b"251\n0.5\n", [Gross(251_000), Gross(500), End, End]),
+const LINES: [(&[u8], [CellItem; 4]); 16] = [
+    (
+        b"",
+        [CellItem::End, CellItem::End, CellItem::End, CellItem::End],
+    ),
+    (
+        b"251\n0.5\n",
+        [
+            CellItem::Gross(251_000),
+            CellItem::Gross(500),
+            CellItem::End,
+            CellItem::End,
+        ],
+    ),
     // a CR before the LF, and a last line without one
     (
         b"251.000\r\n30000",
-        [Gross(251_000), Gross(30_000_000), End, End],
+        [
+            CellItem::Gross(251_000),
+            CellItem::Gross(30_000_000),
+            CellItem::End,
+            CellItem::End,
+        ],
     ),
     // it goes on behind a bad line
     (
         b"251\n\n252\n",
-        [Gross(251_000), Bad { line: 2 }, Gross(252_000), End],
+        [
+            CellItem::Gross(251_000),
+            CellItem::Bad { line: 2 },
+            CellItem::Gross(252_000),
+            CellItem::End,
+        ],
     ),
-    (b"-1\n", [Bad { line: 1 }, End, End, End]),
+    (
+        b"-1\n",
+        [
+            CellItem::Bad { line: 1 },
+            CellItem::End,
+            CellItem::End,
+            CellItem::End,
+        ],
+    ),
     // a CR at the end of a last line without an LF
-    (b"251\r", [Bad { line: 1 }, End, End, End]),
+    (
+        b"251\r",
+        [
+            CellItem::Bad { line: 1 },
+            CellItem::End,
+            CellItem::End,
+            CellItem::End,
+        ],
+    ),
     // 65 bytes without an LF, and what follows them
-    (OVER, [Bad { line: 1 }, End, End, End]),
+    (
+        OVER,
+        [
+            CellItem::Bad { line: 1 },
+            CellItem::End,
+            CellItem::End,
+            CellItem::End,
+        ],
+    ),
     (
         OVER_LINE,
-        [Bad { line: 1 }, Gross(252_000), Bad { line: 3 }, End],
+        [
+            CellItem::Bad { line: 1 },
+            CellItem::Gross(252_000),
+            CellItem::Bad { line: 3 },
+            CellItem::End,
+        ],
     ),
-    (LONG_LINE, [Bad { line: 1 }, Gross(253_000), End, End]),
+    (
+        LONG_LINE,
+        [
+            CellItem::Bad { line: 1 },
+            CellItem::Gross(253_000),
+            CellItem::End,
+            CellItem::End,
+        ],
+    ),
     // two bad lines, one behind the other
     (
         b"251 \n+1\n1",
-        [Bad { line: 1 }, Bad { line: 2 }, Gross(1_000), End],
+        [
+            CellItem::Bad { line: 1 },
+            CellItem::Bad { line: 2 },
+            CellItem::Gross(1_000),
+            CellItem::End,
+        ],
+    ),
+    // a batch, with a CR before the LF, and in a last line without one
+    (
+        b"batch A\r\n251\nbatch B",
+        [
+            CellItem::Batch(b"A", 1),
+            CellItem::Gross(251_000),
+            CellItem::Batch(b"B", 3),
+            CellItem::End,
+        ],
+    ),
+    // one batch twice, and names that are no words of the hall
+    (
+        b"batch A\nbatch A\nbatch batch\nbatch \xff=",
+        [
+            CellItem::Batch(b"A", 1),
+            CellItem::Batch(b"A", 2),
+            CellItem::Batch(b"batch", 3),
+            CellItem::Batch(b"\xff=", 4),
+        ],
+    ),
+    // names of 32 and of 33 bytes, and of none
+    (
+        b"batch 0123456789abcdef0123456789abcdef\nbatch 0123456789abcdef0123456789abcdefg\nbatch \n",
+        [
+            CellItem::Batch(b"0123456789abcdef0123456789abcdef", 1),
+            CellItem::Bad { line: 2 },
+            CellItem::Bad { line: 3 },
+            CellItem::End,
+        ],
+    ),
+    // a blank, a tab or a CR in a name, and two blanks before it
+    (
+        b"batch A B\nbatch A\t\nbatch A\r\r\n",
+        [
+            CellItem::Bad { line: 1 },
+            CellItem::Bad { line: 2 },
+            CellItem::Bad { line: 3 },
+            CellItem::End,
+        ],
+    ),
+    (
+        b"batch  A\nbatch\tA\nbatch",
+        [
+            CellItem::Bad { line: 1 },
+            CellItem::Bad { line: 2 },
+            CellItem::Bad { line: 3 },
+            CellItem::End,
+        ],
+    ),
+    (
+        b"Batch A\n batch A\nbatch A\r",
+        [
+            CellItem::Bad { line: 1 },
+            CellItem::Bad { line: 2 },
+            CellItem::Bad { line: 3 },
+            CellItem::End,
+        ],
     ),
 ];
 
 // Whether a cell gives these items.
-fn gives(mut cell: LineCell<Pieces>, items: &[CellNext; 4]) -> bool {
+fn gives(mut cell: LineCell<Pieces>, items: &[CellItem; 4]) -> bool {
     for item in items {
-        if cell.next() != Ok(*item) {
+        if cell.next() != Ok(item.next()) {
             return false;
         }
     }

@@ -1,7 +1,8 @@
 use crate::halls::{Given, NONE, work_twice};
-use CellNext::{Bad, End, Gross, Spent};
+use CellItem::{Bad, End, Gross, Spent};
 use book_words::{Prior, Refusal, Refused};
-use lane_worker::{CellNext, LaneEnd, LaneStop};
+use lane_worker::{LaneEnd, LaneStop};
+use memory_hall::CellItem;
 use std::alloc::Global;
 use std::test::Fail;
 
@@ -15,7 +16,7 @@ struct Case {
     opened: &'static [u32],
     rows: u32,
     prior: Option<Prior>,
-    next: CellNext,
+    next: CellItem,
 }
 
 // The worker stops the lane (row 6), starts it (row 7), weighs, and stops it.
@@ -193,7 +194,7 @@ fn is_right(alloc: Global, case: &Case) -> Option<bool> {
             && seen.opened
             && seen.rows == case.rows
             && seen.last == case.prior
-            && seen.next == Some(case.next),
+            && seen.next == Some(case.next.next()),
     )
 }
 

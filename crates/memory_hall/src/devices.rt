@@ -1,7 +1,8 @@
 //! Calls that fail are counted from 1, of each device by itself.
+use crate::items::CellItem;
 use crate::lists::copy;
 use disk_core::{ListDoor, MemoryDisk};
-use lane_worker::{CellNext, ListCell, ListGate, PairLane};
+use lane_worker::{ListCell, ListGate, PairLane};
 use std::alloc::Global;
 
 /// A lane in memory.
@@ -10,11 +11,15 @@ pub type MemoryLane = PairLane<ListCell, ListGate>;
 /// A lane whose cell gives these items, where these calls of the cell and these of the gate fail.
 pub fn lane_of(
     alloc: Global,
-    items: &[CellNext],
+    items: &[CellItem],
     cell_fails: &[u32],
     gate_fails: &[u32],
 ) -> MemoryLane {
-    let cell = ListCell::new(copy(alloc, items), copy(alloc, cell_fails));
+    let mut given = Vec::new(alloc);
+    for item in items {
+        let _ = given.push(item.next());
+    }
+    let cell = ListCell::new(given, copy(alloc, cell_fails));
     let gate = ListGate::new(alloc, copy(alloc, gate_fails));
     PairLane::new(cell, gate)
 }
@@ -22,7 +27,7 @@ pub fn lane_of(
 /// Such a lane for each of these lists of items.
 pub fn lanes_of(
     alloc: Global,
-    cells: &[&[CellNext]],
+    cells: &[&[CellItem]],
     cell_fails: &[u32],
     gate_fails: &[u32],
 ) -> Vec<MemoryLane> {

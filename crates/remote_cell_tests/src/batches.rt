@@ -1,23 +1,14 @@
-use crate::cells::{any_cell_of, was_written};
-use book_words::Name;
+use crate::cells::{any_cell_of, gives, was_written};
 use lane_worker::{Cell, CellNext};
+use memory_hall::CellItem;
 use std::alloc::Global;
 use std::test::Fail;
-
-// What a cell gives.
-enum Given {
-    Gross(i64),
-    // Of a line of this number.
-    Batch(&'static [u8], u32),
-    End,
-    Bad(u32),
-}
 
 // Connections, what a cell over them gives that takes batches, and what is then written to each of
 // those served.
 struct Row {
     connections: &'static [&'static [u8]],
-    given: &'static [Given],
+    given: &'static [CellItem],
     written: &'static [&'static [u8]],
 }
 
@@ -28,45 +19,45 @@ const TAKEN: &[Row] = &[
             b"3 batch B\n3 batch B\n4 260\n5 end\n",
         ],
         given: &[
-            Given::Batch(b"A", 1),
-            Given::Gross(251_000),
-            Given::Batch(b"B", 3),
-            Given::Gross(260_000),
-            Given::End,
-            Given::End,
+            CellItem::Batch(b"A", 1),
+            CellItem::Gross(251_000),
+            CellItem::Batch(b"B", 3),
+            CellItem::Gross(260_000),
+            CellItem::End,
+            CellItem::End,
         ],
         written: &[b"ack 1\nack 2\n", b"ack 3\nack 3\nack 4\nack 5\n"],
     },
     // It is acknowledged when the next item is asked for, and not before.
     Row {
         connections: &[b"1 batch A\n2 batch A\n"],
-        given: &[Given::Batch(b"A", 1)],
+        given: &[CellItem::Batch(b"A", 1)],
         written: &[b""],
     },
     Row {
         connections: &[b"1 batch A\n2 batch A\n"],
-        given: &[Given::Batch(b"A", 1), Given::Batch(b"A", 2)],
+        given: &[CellItem::Batch(b"A", 1), CellItem::Batch(b"A", 2)],
         written: &[b"ack 1\n"],
     },
     // One that is ahead is passed over; one that was taken stands, whatever comes under its number.
     Row {
         connections: &[b"2 batch A\n1 251\n1 batch B\n"],
-        given: &[Given::Gross(251_000), Given::Bad(4)],
+        given: &[CellItem::Gross(251_000), CellItem::Bad { line: 4 }],
         written: &[b"ack 1\nack 1\n"],
     },
     Row {
         connections: &[b"1 batch A\n1 batch B\n1 251\n2 end\n"],
-        given: &[Given::Batch(b"A", 1), Given::End],
+        given: &[CellItem::Batch(b"A", 1), CellItem::End],
         written: &[b"ack 1\nack 1\nack 1\nack 2\n"],
     },
     Row {
         connections: &[b"1 batch 0123456789abcdef0123456789abcdef\n"],
-        given: &[Given::Batch(b"0123456789abcdef0123456789abcdef", 1)],
+        given: &[CellItem::Batch(b"0123456789abcdef0123456789abcdef", 1)],
         written: &[b""],
     },
     Row {
         connections: &[b"1 batch end\n2 end\n"],
-        given: &[Given::Batch(b"end", 1), Given::End],
+        given: &[CellItem::Batch(b"end", 1), CellItem::End],
         written: &[b"ack 1\nack 2\n"],
     },
 ];
@@ -95,28 +86,11 @@ const UNTAKEN: &[&[u8]] = &[
     b"1 251\n7 batch A\n2 251\n",
 ];
 
-// What is given, as a cell says it.
-fn said(given: &Given) -> Option<CellNext> {
-    Some(match given {
-        Given::Gross(gross) => CellNext::Gross(*gross),
-        Given::Batch(name, line) => CellNext::Batch {
-            batch: Name::new(name)?,
-            line: *line,
-        },
-        Given::End => CellNext::End,
-        Given::Bad(line) => CellNext::Bad { line: *line },
-    })
-}
-
 // Whether a row comes out right.
 fn comes_out(alloc: Global, row: &Row) -> bool {
     let mut cell = any_cell_of(alloc, row.connections, &[], true);
-    for given in row.given {
-        if cell.next().ok() != said(given) {
-            return false;
-        }
-    }
-    was_written(&cell.back(), row.written)
+    let given = gives(&mut cell, row.given);
+    given && was_written(&cell.back(), row.written)
 }
 
 // The place of the first row that doesn't.

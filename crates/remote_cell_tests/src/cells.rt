@@ -1,6 +1,6 @@
 use disk_core::ListDoor;
-use lane_worker::{Cell, CellNext};
-use memory_hall::copy;
+use lane_worker::Cell;
+use memory_hall::{CellItem, copy};
 use remote_cell::RemoteCell;
 use std::alloc::Global;
 
@@ -28,9 +28,9 @@ pub(crate) fn any_cell_of(
 }
 
 /// Whether a cell gives these items next, one after another.
-pub(crate) fn gives(cell: &mut TestCell, items: &[CellNext]) -> bool {
+pub(crate) fn gives(cell: &mut TestCell, items: &[CellItem]) -> bool {
     for item in items {
-        if cell.next() != Ok(*item) {
+        if cell.next() != Ok(item.next()) {
             return false;
         }
     }

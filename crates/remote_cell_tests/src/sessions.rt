@@ -1,16 +1,17 @@
 use crate::cells::{TestCell, cell_of, gives};
 use disk_core::Failed;
-use lane_worker::{Cell, CellNext};
+use lane_worker::Cell;
+use memory_hall::CellItem;
 use std::alloc::Global;
 use std::test::Fail;
 
 // What a scale says in a session, and what it sends.
 const SESSION: &[u8] = b"1 251\n2 260.5\n3 end\n";
 
-const SENT: [CellNext; 3] = [
-    CellNext::Gross(251_000),
-    CellNext::Gross(260_500),
-    CellNext::End,
+const SENT: [CellItem; 3] = [
+    CellItem::Gross(251_000),
+    CellItem::Gross(260_500),
+    CellItem::End,
 ];
 
 // The calls of the door in one whole session: it is admitted, each byte is read, and each of its
@@ -39,7 +40,7 @@ fn fails_before(cell: &mut TestCell) -> Option<u32> {
             failed = failed.saturating_add(1);
             given = cell.next();
         }
-        if given != Ok(*item) {
+        if given != Ok(item.next()) {
             return None;
         }
     }

@@ -1,12 +1,12 @@
 use crate::cells::{cell_of, gives, was_written};
-use lane_worker::CellNext;
+use memory_hall::CellItem;
 use std::alloc::Global;
 use std::test::Fail;
 
 // Connections, what a cell over them gives, and what is then written to each of those served.
 struct Row {
     connections: &'static [&'static [u8]],
-    items: &'static [CellNext],
+    items: &'static [CellItem],
     written: &'static [&'static [u8]],
 }
 
@@ -14,59 +14,59 @@ const ROWS: &[Row] = &[
     Row {
         connections: &[b"1 251\n2 26", b"1 251\n2 260\n2 260\n4 255\n3 end\n"],
         items: &[
-            CellNext::Gross(251_000),
-            CellNext::Gross(260_000),
-            CellNext::End,
-            CellNext::End,
+            CellItem::Gross(251_000),
+            CellItem::Gross(260_000),
+            CellItem::End,
+            CellItem::End,
         ],
         written: &[b"ack 1\n", b"ack 1\nack 2\nack 2\nack 3\n"],
     },
     Row {
         connections: &[b"1 x\n"],
-        items: &[CellNext::Bad { line: 1 }, CellNext::Bad { line: 1 }],
+        items: &[CellItem::Bad { line: 1 }, CellItem::Bad { line: 1 }],
         written: &[b""],
     },
     // Behind the last connection the line after the last is bad, lines passed over among those
     // before it; one that is cut is none.
     Row {
         connections: &[b"2 251\n1 25", b"1 251\n"],
-        items: &[CellNext::Gross(251_000), CellNext::Bad { line: 3 }],
+        items: &[CellItem::Gross(251_000), CellItem::Bad { line: 3 }],
         written: &[b"", b"ack 1\n"],
     },
     Row {
         connections: &[],
-        items: &[CellNext::Bad { line: 1 }],
+        items: &[CellItem::Bad { line: 1 }],
         written: &[],
     },
     // The number, the space and what is said are spelled in one way each.
     Row {
         connections: &[b"0 251\n"],
-        items: &[CellNext::Bad { line: 1 }],
+        items: &[CellItem::Bad { line: 1 }],
         written: &[b""],
     },
     Row {
         connections: &[b"4294967295 251\n4294967296 251\n"],
-        items: &[CellNext::Bad { line: 2 }],
+        items: &[CellItem::Bad { line: 2 }],
         written: &[b""],
     },
     Row {
         connections: &[b"1 251\r\n"],
-        items: &[CellNext::Bad { line: 1 }],
+        items: &[CellItem::Bad { line: 1 }],
         written: &[b""],
     },
     Row {
         connections: &[b"1  251\n"],
-        items: &[CellNext::Bad { line: 1 }],
+        items: &[CellItem::Bad { line: 1 }],
         written: &[b""],
     },
     Row {
         connections: &[b"\n"],
-        items: &[CellNext::Bad { line: 1 }],
+        items: &[CellItem::Bad { line: 1 }],
         written: &[b""],
     },
     Row {
         connections: &[b"01 251.5\n2 END\n"],
-        items: &[CellNext::Gross(251_500), CellNext::Bad { line: 2 }],
+        items: &[CellItem::Gross(251_500), CellItem::Bad { line: 2 }],
         written: &[b"ack 1\n"],
     },
     // 64 bytes are a line that says nothing, and 65 are none; 20 digits are a number.
@@ -75,7 +75,7 @@ const ROWS: &[Row] = &[
             b"00000000000000000001 251\n\
             1234567890123456789012345678901234567890123456789012345678901234\n",
         ],
-        items: &[CellNext::Gross(251_000), CellNext::Bad { line: 2 }],
+        items: &[CellItem::Gross(251_000), CellItem::Bad { line: 2 }],
         written: &[b"ack 1\n"],
     },
     Row {
@@ -83,7 +83,7 @@ const ROWS: &[Row] = &[
             b"12345678901234567890123456789012345678901234567890123456789012345",
             b"1 251\n",
         ],
-        items: &[CellNext::Bad { line: 1 }, CellNext::Bad { line: 1 }],
+        items: &[CellItem::Bad { line: 1 }, CellItem::Bad { line: 1 }],
         written: &[b""],
     },
 ];

@@ -3,11 +3,13 @@ use crate::meanings::meaning;
 use batch_reports::refusal_text;
 use book_words::{Act, Entry, Name, Refusal, Refused};
 use command_line::{Command, Wants};
+use lane_changes::ChangeNotices;
 use lane_worker::{LaneEnd, LaneStop};
 use office_door::DoorEnd;
 use session_jobs::JobNotices;
 use setup_run::SetupNotices;
 use std::alloc::Global;
+use std::fmt;
 use std::io::Eprint;
 
 // A new day that is more days than this ahead of the one before is told.
@@ -18,6 +20,32 @@ const FEW_ROWS: u32 = 50_000;
 
 // Of a book's rows, the last one in so many are told at each run that adds some.
 const LAST_PART: u32 = 100;
+
+// A lane at work: for its batch, or for those that its cell says.
+struct Job {
+    lane: u8,
+    batch: Option<Name>,
+}
+
+impl fmt::Display for Job {
+    fn fmt<W: fmt::Write>(&self, f: &mut fmt::Formatter<W>) -> fmt::Result {
+        let lane = self.lane;
+        match self.batch {
+            Some(batch) => write!(f, "lane {lane}, batch {}", batch.as_bytes().escape_ascii()),
+            None => write!(f, "lane {lane}, changing"),
+        }
+    }
+}
+
+// A refusal by its number and its name, and how many rows the book had.
+struct ShortRefusal(Refused);
+
+impl fmt::Display for ShortRefusal {
+    fn fmt<W: fmt::Write>(&self, f: &mut fmt::Formatter<W>) -> fmt::Result {
+        let Refused { refusal, at } = self.0;
+        write!(f, "refused {} {} at {at}", refusal.number(), refusal.name())
+    }
+}
 
 /// What people should know of a run. A refused line of a setup, and what becomes of lanes and doors
 /// that are at work at once, is told always, all else where standard error is a terminal, and of
@@ -140,6 +168,29 @@ impl<E: Eprint + Drop> SetupNotices for RunNotices<E> {
     }
 }
 
+impl<E: Eprint + Drop> ChangeNotices for RunNotices<E> {
+    fn start_refused(&self, lane: u8, batch: Name, refused: Refused) {
+        let _ = eprintln!(&self.errors;
+            "hall: lane {lane} waits, batch {}: {}: {}",
+            batch.as_bytes().escape_ascii(),
+            ShortRefusal(refused),
+            meaning(&refused.refusal)
+        );
+    }
+
+    fn weight_without_batch(&self, lane: u8, count: u32) {
+        if count == 1 {
+            let _ = eprintln!(&self.errors;
+                "hall: lane {lane} waits: a weight came without a batch"
+            );
+        }
+    }
+
+    fn weights_without_batch(&self, lane: u8, count: u32) {
+        let _ = eprintln!(&self.errors; "hall: lane {lane}: {count} weights came without a batch");
+    }
+}
+
 impl<E: Eprint + Drop> JobNotices for RunNotices<E> {
     fn begin(&self, rows: u32) {
         let left = self.limit.saturating_sub(rows);
@@ -149,22 +200,15 @@ impl<E: Eprint + Drop> JobNotices for RunNotices<E> {
         );
     }
 
-    fn lane_ended(&self, lane: u8, batch: Name, end: LaneEnd) {
+    fn lane_ended(&self, lane: u8, batch: Option<Name>, end: LaneEnd) {
+        let job = Job { lane, batch };
         if let LaneStop::Refused(refused) = end.stop {
-            let (number, name) = (refused.refusal.number(), refused.refusal.name());
-            let _ = eprintln!(&self.errors;
-                "hall: lane {lane}, batch {}: refused {number} {name} at {}",
-                batch.as_bytes().escape_ascii(),
-                refused.at
-            );
+            let _ = eprintln!(&self.errors; "hall: {job}: {}", ShortRefusal(refused));
             return;
         }
         let mut text = Vec::new(self.alloc);
         let stop = lane_stop(&end, &mut text);
-        let _ = eprintln!(&self.errors;
-            "hall: lane {lane}, batch {}: {stop}",
-            batch.as_bytes().escape_ascii()
-        );
+        let _ = eprintln!(&self.errors; "hall: {job}: {stop}");
     }
 
     fn door_ended(&self, door: u8, end: DoorEnd) {
