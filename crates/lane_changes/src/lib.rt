@@ -9,3 +9,4 @@ mod types;
 
 pub use changing::{MAX_STINTS, run_changes};
 pub use notices::ChangeNotices;
+pub use types::Next;

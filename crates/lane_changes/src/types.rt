@@ -2,7 +2,7 @@ use book_words::Name;
 
 /// What a changing lane does next.
 #[derive(Clone, Copy)]
-pub(crate) enum Next {
+pub enum Next {
     /// It is worked for this batch.
     Works(Name),
     /// It waits for a batch, its gate shut.

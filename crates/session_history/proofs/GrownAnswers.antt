@@ -1,6 +1,7 @@
 -- What was answered right in what a caller has seen is so in all rows, which go on from it.
 use Rattle.std.proofs.Common.{◌≡◌, ℕ, ◌+◌, ◌<◌, ◌≤◌, true, List, [], ◌∷◌, ◌++◌, length, All, Option, Some, None, option_map, IsSome, Result, Ok, Err, refl, sym, ◌∙◌, ap, subst, arith, append_assoc, length-append}
 use Rattle.std.proofs.lemmas.List.Elements.{All-append, All-cons, All-nil, All-same, All-weaker}
+use Rattle.std.proofs.lemmas.List.{append_cancel_left}
 use Rattle.std.specs.List.{cons_option}
 use Rattle.device_facts.specs.Prefix.{IsPrefixOf}
 use Rattle.book_words.specs.declared.act.Ask as asks
@@ -21,7 +22,7 @@ use Rattle.office_door.specs.Exchanges.{Exchange, IsAnswered, IsAnsweredIn, IsLo
 use Rattle.office_door.proofs.Prefixes.{prefix_on}
 use Rattle.office_wire.specs.declared.types.OfficeAsk.{OfficeAsk}
 use Rattle.office_wire.specs.declared.types.OfficeAsk.TheVariants.{Ask, Bad, NoMemory}
-use Rattle.session_jobs.specs.Runs.{BrokeBefore, AnyAsks, newcomer}
+use Rattle.session_jobs.specs.Runs.{BrokeBefore, AnyAsks}
 use Rattle.session_history.specs.Replies.{IsErrorIn, NamesOwnRows}
 
 onto : (new : Option Entry) (after more : List Entry)
@@ -146,13 +147,13 @@ module _ (room : ℕ) (first last : Known) (rows : List Entry)
 abbrev Named : refusals.Refused → Row → Type 0
 Named refused row = row.number ≤ refused.at
 
--- a refusal names what its caller had seen before, and all rows of its own
-module _ (limit by room : ℕ) (before : List Entry) (last : Known) (answered : List asks.Ask)
+-- a refusal names what its caller had seen before, and the rows that it has added since
+module _ (room : ℕ) (before : List Entry) (first last : Known) (begins : IsPrefixOf before first.seen)
+    (own : List Row) (mine : last.mine ≡ first.mine ++ own) (answered : List asks.Ask)
     (next : asks.Ask) where
   refused_names : (refused : refusals.Refused)
-      → BrokeBefore AnyAsks room (newcomer limit before by) last answered next
-      (error.Refused refused)
-      → NamesOwnRows before last.mine (lane_stop.Refused refused)
+      → BrokeBefore AnyAsks room first last answered next (error.Refused refused)
+      → NamesOwnRows before own (lane_stop.Refused refused)
   refused_names refused broke =
       let between = broke.between in
       let has = broke.answer.says in
@@ -164,12 +165,22 @@ module _ (limit by room : ℕ) (before : List Entry) (last : Known) (answered : 
       omega (arith, ap length has.grows, length-append between.seen has.unseen) in
       let front_named : length front ≤ refused.at =
       omega (arith, at, length-append front (cons_option new [])) in
-      let met = broke.before in (
-        omega (arith, ap length met.seen.1, length-append before met.seen.0, seen, front_named),
-        All-same (Named refused) last.mine
-            (met.added ++ cons_option (row_added between.limit front between.by next) [])
-            (has.mine ∙ ap (λ (own : List Row). own
-            ++ cons_option (row_added between.limit front between.by next) []) met.mine)
+      let met = broke.before in
+      let more = cons_option (row_added between.limit front between.by next) [] in
+      let same : own ≡ met.added ++ more = append_cancel_left first.mine own (met.added ++ more)
+      (sym mine ∙ has.mine ∙ ap (λ (rows : List Row). rows ++ more) met.mine
+      ∙ append_assoc first.mine met.added more) in (
+        omega (
+          arith,
+          ap length begins.1,
+          length-append before begins.0,
+          ap length met.seen.1,
+          length-append first.seen met.seen.0,
+          seen,
+          front_named,
+        ),
+        All-same (Named refused) own
+            (met.added ++ cons_option (row_added between.limit front between.by next) []) same
             (All-append (Named refused) met.added
             (cons_option (row_added between.limit front between.by next) [])
             (All-weaker (λ (row : Row). row.number ≤ length between.seen) (Named refused)
@@ -187,8 +198,8 @@ module _ (limit by room : ℕ) (before : List Entry) (last : Known) (answered : 
           (omega (arith, at, length-append front (entry ∷ []))) (All-nil (Named refused))
 
   pub error_names : (why : AskError)
-      → BrokeBefore AnyAsks room (newcomer limit before by) last answered next why
-      → NamesOwnRows before last.mine (ask_stop why)
+      → BrokeBefore AnyAsks room first last answered next why
+      → NamesOwnRows before own (ask_stop why)
   error_names (error.Refused refused) broke = refused_names refused broke
   error_names error.DiskFault broke = tt
   error_names error.NoMemory broke = tt
@@ -197,6 +208,7 @@ module _ (limit by room : ℕ) (before : List Entry) (last : Known) (answered : 
 pub finish_names : (before : List Entry) (own : List Row) (ending : WeighingEnd)
     → NamesOwnRows before own (weighing_stop ending)
 finish_names before own ends.End = tt
+finish_names before own (ends.Change batch line) = tt
 finish_names before own (ends.Bad line) = tt
 finish_names before own ends.Spent = tt
 finish_names before own ends.CellFailed = tt

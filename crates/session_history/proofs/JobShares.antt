@@ -1,15 +1,14 @@
 -- What each job did, and that all of it is so in the rows that the session leaves.
-use Rattle.std.proofs.Common.{◌≡◌, ⊎_elim, inl, inr, ℕ, ◌+◌, ◌<◌, min, List, [], ◌∷◌, ◌++◌, length, map, subst, All, Option, refl, sym, ◌∙◌, ap, arith}
+use Rattle.std.proofs.Common.{◌≡◌, ℕ, ◌+◌, min, List, [], ◌∷◌, ◌++◌, length, map, All, Option, Some, None, refl, sym, ◌∙◌, ap, arith}
 use Rattle.std.specs.Bool.{⊤}
+use Rattle.std.specs.List.{sum_by}
 use Rattle.std.proofs.lemmas.List.Elements.{All-cons, All-head, All-nil, All-tail}
 use Rattle.device_facts.specs.Prefix.{IsPrefixOf}
 use Rattle.hall_limits.specs.declared.TheConstants.{MAX_LANE}
 use Rattle.disk_core.specs.declared.source.Source as source
 use Rattle.disk_core.specs.declared.door.Door as door
-use Rattle.book_words.specs.declared.act.Ask.{Ask}
+use Rattle.book_words.specs.declared.name.Name.{Name}
 use Rattle.book_words.specs.declared.act.Entry.{Entry}
-use Rattle.book_words.specs.declared.caller.AskError.{AskError}
-use Rattle.book_words.specs.declared.caller.AskError.TheVariants as error
 use Rattle.book_words.specs.Answers.{IsLegal}
 use Rattle.book_words.specs.Callers.{Known, FAULTS_END}
 use Rattle.book_words.specs.Desks.{Row}
@@ -17,28 +16,30 @@ use Rattle.book_laws.proofs.VerdictLaws.{verdicts_stay}
 use Rattle.book_store.specs.Callers.{own_rows}
 use Rattle.lane_worker.specs.declared.cell.Cell as cell
 use Rattle.lane_worker.specs.declared.gate.Gate as gate
-use Rattle.lane_worker.specs.Endings.{faults_at, gate_failed, ask_stop}
+use Rattle.lane_worker.specs.declared.ending.LaneStop.TheVariants as stop
+use Rattle.lane_worker.specs.Endings.{faults_at}
 use Rattle.lane_worker.specs.Works as lanes
-use Rattle.lane_worker.specs.Works.{IsWork, asks_of_work}
+use Rattle.lane_worker.specs.Works.{IsWork}
+use Rattle.lane_changes.specs.declared.types.Next.TheVariants.{Waits}
+use Rattle.lane_changes.specs.Changes.{HasChanged}
+use Rattle.lane_changes.specs.Stints.{first_refused, weights_in}
 use Rattle.office_door.specs.Doors as doors
 use Rattle.office_door.specs.Doors.{all_exchanges}
 use Rattle.office_door.specs.Exchanges.{disk_faults, places_of}
-use Rattle.office_door.proofs.Prefixes.{prefix_on}
+use Rattle.office_door.proofs.Prefixes.{prefix_itself}
 use Rattle.session_jobs.specs.declared.work.DoorJob.{DoorJob}
 use Rattle.session_jobs.specs.declared.work.LaneJob.{LaneJob}
 use Rattle.session_jobs.specs.declared.work.Work.{Work}
 use Rattle.session_jobs.specs.declared.work.Work.TheVariants.{Lane, Door}
-use Rattle.session_jobs.specs.Runs.{BrokeBefore, HasRun, IsDoneBesideOthers, Run, AnyAsks, newcomer}
-use Rattle.session_jobs.specs.Works.{IsDoorDone, IsLaneDone, door_site, lane_site, number_of}
-use Rattle.session_history.specs.Deeds.{Deed, Worked, Served, LaneDeed, DoorDeed, Share, HasDone, faults_of}
+use Rattle.session_jobs.specs.Runs.{BrokeBefore, BrokeBetween, HasRun, IsDoneBesideOthers, Run, AnyAsks, AnyBetween, newcomer}
+use Rattle.session_jobs.specs.Works.{IsDoorDone, IsLaneDone, IsWorkedFor, door_site, lane_site, number_of}
+use Rattle.session_history.specs.Deeds.{Deed, Worked, Changed, Served, DoorDeed, Share, HasDone, faults_of}
 use Rattle.session_history.specs.Gates.{OpensRight}
-use Rattle.session_history.specs.Replies.{RepliesRight, NamesWhatWasSeen, TellsVerdicts, EndsRight, NamesOwnRows}
-use Rattle.session_history.specs.Rows.{AddsActs, AddsItsRows, is_whole, rows_added}
-use Rattle.session_history.proofs.GrownAnswers.{all_answered_on, error_names, error_on, fall_on, finish_names, prefix_short}
-use Rattle.session_history.proofs.OwnRows.{opened_stand, stand_on}
-use Rattle.session_history.proofs.ReleasedPacks.{opened_released}
+use Rattle.session_history.specs.Replies.{RepliesRight, NamesWhatWasSeen, TellsVerdicts}
+use Rattle.session_history.specs.Rows.{AddsActs, AddsItsRows, rows_added}
+use Rattle.session_history.proofs.GrownAnswers.{all_answered_on, fall_on, prefix_short}
+use Rattle.session_history.proofs.LaneWorks.{StartsAt, faults_told, stints_held, work_held}
 use Rattle.session_history.proofs.ToldVerdicts.{all_told}
-use Rattle.session_history.proofs.WorkedActs.{all_weighed, answered_all, answered_first}
 
 module _ {L O : Type 0} (weighs : cell.Ghosts L) (lifts : gate.Ghosts L) (reads : source.Ghosts O)
     (comes : door.Ghosts O) (limit spare : ℕ) (before rows : List Entry)
@@ -67,94 +68,91 @@ module _ {L O : Type 0} (weighs : cell.Ghosts L) (lifts : gate.Ghosts L) (reads 
   module _ (known : Known) (seen : IsPrefixOf known.seen rows) where
     module _ (was now : LaneJob L)
         (done : IsLaneDone AnyAsks
-        (BrokeBefore AnyAsks room (newcomer limit before was.number) known)
-        lane_at (newcomer limit before was.number) known was now)
+        (BrokeBefore AnyAsks room (newcomer limit before was.number) known) AnyBetween
+        (BrokeBetween room) lane_at (newcomer limit before was.number) known was now)
         (own : own_rows was.number rows ≡ own_rows was.number before ++ known.mine) where
-      abbrev lane_deed : LaneDeed
-      lane_deed = record { batch = was.batch; work = done.works.work; end = done.end }
+      abbrev first_site : lanes.Site
+      first_site = lane_at (newcomer limit before was.number) was.lane
 
-      abbrev asks : List Ask
-      asks = asks_of_work was.number was.batch done.works.work
+      abbrev last_site : lanes.Site
+      last_site = lane_at known now.lane
 
-      -- a worker that found no memory was answered no fault
-      no_faults : (why : AskError) → done.end.stop ≡ ask_stop why → why ≡ error.NoMemory
-          → known.faults < FAULTS_END
-      no_faults why told is =
-          let none : faults_at done.end.stop ≡ 0 =
-          ap faults_at (told ∙ ap ask_stop is) in
-          omega (arith, done.works.faults, none)
+      starts : StartsAt limit room before rows legal was.number first_site
+      starts = record { begins = prefix_itself before; most = refl; by = refl; calm = refl }
 
-      ends_right : EndsRight limit room rows was.number lane_deed
-      ends_right = ⊎_elim
-          (λ f. inl (record {
-            ending = f.ending;
-            ended = f.ended;
-            told = f.told;
-            whole = f.whole;
-            later = tt;
-          }))
-          (λ b. inr (record {
-            next = b.next;
-            why = b.why;
-            told = b.told;
-            first = b.first;
-            broke = error_on room (newcomer limit before was.number) known rows seen
-                done.works.work.answered b.next limit was.number done.works.added.limit
-                done.works.added.by b.why (no_faults b.why b.told) b.broke;
-          })) done.works.stops
+      -- a lane was worked for the batch of its job
+      worked : (batch : Name) → was.batch ≡ Some batch
+          → IsWork AnyAsks (BrokeBefore AnyAsks room (newcomer limit before was.number) known)
+          first_site last_site was.number batch done.end
+          → (did : Deed) × IsHeld known (Lane was) (Lane now) did
+      worked batch is_batch is =
+          let one = work_held limit room before rows legal was.number first_site last_site batch
+          done.end is starts seen in (
+            Worked (record { batch = batch; work = is.work; end = done.end }),
+            record {
+              done = record {
+                number = done.number;
+                batch = is_batch;
+                end = done.ended;
+                given = one.devices.given;
+                opened = one.devices.opened;
+                done = one.devices.done;
+              };
+              own = own ∙ ap (λ added. own_rows was.number before ++ added) one.mine;
+              acts = one.acts;
+              replies = one.replies;
+              places = one.places;
+              closings = tt;
+              gates = one.gates;
+              mine = one.mine;
+              counted = ap (λ n. min n FAULTS_END) one.faults
+                  ∙ (let same : min (min (0 + faults_at done.end.stop) FAULTS_END) FAULTS_END
+                  ≡ min (faults_at done.end.stop) FAULTS_END = omega arith in same);
+            },
+          )
 
-      names_own : NamesOwnRows before done.works.work.rows done.end.stop
-      names_own = ⊎_elim
-          (λ f. subst (NamesOwnRows before done.works.work.rows) (sym f.told)
-          (finish_names before done.works.work.rows f.ending))
-          (λ b. subst (NamesOwnRows before done.works.work.rows) (sym b.told)
-          (subst (λ (own : List Row). NamesOwnRows before own (ask_stop b.why)) done.works.added.mine
-          (error_names limit was.number room before known done.works.work.answered b.next b.why
-          b.broke))) done.works.stops
+      -- or it changed its batch
+      changed : was.batch ≡ None
+          → HasChanged AnyAsks AnyBetween (BrokeBetween room) first_site last_site was.number done.end
+          → (did : Deed) × IsHeld known (Lane was) (Lane now) did
+      changed no_batch is =
+          let all = stints_held limit room before rows legal was.number Waits first_site is.stints
+          last_site is.next is.course is.did (λ more. starts) seen in
+          let told = faults_told stop.Done (first_refused is.stints) (sum_by weights_in is.stints)
+          Waits is.stints is.next is.course (λ more. refl) in (
+            Changed (record { stints = is.stints; next = is.next; end = done.end }),
+            record {
+              done = record {
+                number = done.number;
+                batch = no_batch;
+                end = done.ended;
+                course = is.course;
+                ended = is.ended;
+                devices = all.devices;
+                opened = is.opened;
+                stop = is.stop;
+              };
+              own = own ∙ ap (λ added. own_rows was.number before ++ added) all.mine;
+              acts = all.acts;
+              replies = all.replies;
+              places = (all.places, all.stand);
+              closings = tt;
+              gates = all.gates;
+              mine = all.mine;
+              counted = all.faults
+                  ∙ ap (λ n. min n FAULTS_END) (told ∙ ap faults_at (sym is.stop));
+            },
+          )
 
-      pub lane_held : IsHeld known (Lane was) (Lane now) (Worked lane_deed)
-      lane_held =
-          let is = done.works in
-          let work = is.work in
-          let stand = stand_on known.seen rows seen was.number (length work.asked) work.rows
-          is.added.stand in
-          record {
-            done = record {
-              number = done.number;
-              batch = refl;
-              end = done.ended;
-              given = is.given;
-              opened = is.opened;
-              done = is.done;
-            };
-            own = own ∙ ap (λ added. own_rows was.number before ++ added) is.added.mine;
-            acts = record {
-              knows = is.added.before;
-              begins = prefix_on work.asked known.seen rows is.added.after seen;
-              acts = sym is.accepted;
-              first = answered_first _ _ asks work done.end.stop is.stops;
-              whole = answered_all _ _ asks work done.end.stop is.stops;
-              weighed = λ whole. all_weighed was.number was.batch work is.accepted
-                  (answered_all _ _ asks work done.end.stop is.stops whole);
-            };
-            replies = ends_right;
-            places = (stand, names_own, is.places);
-            closings = tt;
-            gates = record {
-              all = is.opened.passed;
-              kept = opened_stand rows was.number (length work.asked) work.rows
-                  (gate_failed work.ending) work.opened stand is.opened.passed;
-              told = opened_released rows legal was.number (length work.asked) was.batch work
-                  (gate_failed work.ending) (is_whole done.end.stop) stand is.opened.passed is.accepted
-                  (answered_first _ _ asks work done.end.stop is.stops)
-                  (answered_all _ _ asks work done.end.stop is.stops);
-              count = is.count;
-            };
-            mine = is.added.mine;
-            counted = ap (λ n. min n FAULTS_END) is.faults
-                ∙ (let same : min (min (0 + faults_at done.end.stop) FAULTS_END) FAULTS_END
-                ≡ min (faults_at done.end.stop) FAULTS_END = omega arith in same);
-          }
+      lane_did : (batch : Option Name) → was.batch ≡ batch
+          → IsWorkedFor AnyAsks (BrokeBefore AnyAsks room (newcomer limit before was.number) known)
+          AnyBetween (BrokeBetween room) first_site last_site was.number batch done.end
+          → (did : Deed) × IsHeld known (Lane was) (Lane now) did
+      lane_did (Some batch) is_batch is = worked batch is_batch is
+      lane_did None no_batch is = changed no_batch is
+
+      pub lane_held : (did : Deed) × IsHeld known (Lane was) (Lane now) did
+      lane_held = lane_did was.batch refl done.works
 
     module _ (was now : DoorJob O)
         (done : IsDoorDone AnyAsks door_at
@@ -201,8 +199,7 @@ module _ {L O : Type 0} (weighs : cell.Ghosts L) (lifts : gate.Ghosts L) (reads 
         → IsDoneBesideOthers room lane_at door_at (newcomer limit before (number_of was)) known was now
         → own_rows (number_of was) rows ≡ own_rows (number_of was) before ++ known.mine
         → (did : Deed) × IsHeld known was now did
-    held (Lane was) (Lane now) done own =
-        (Worked (lane_deed was now done own), lane_held was now done own)
+    held (Lane was) (Lane now) done own = lane_held was now done own
     held (Lane was) (Door now) done own = absurd done
     held (Door was) (Lane now) done own = absurd done
     held (Door was) (Door now) done own =

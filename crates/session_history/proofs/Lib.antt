@@ -1,6 +1,7 @@
 pub mod GrownAnswers
 pub mod HistoryLaws
 pub mod JobShares
+pub mod LaneWorks
 pub mod ManyLists
 pub mod OwnRows
 pub mod ReleasedPacks

@@ -11,7 +11,8 @@ use Rattle.book_words.specs.Population.{is_pass}
 use Rattle.lane_worker.specs.Asks.{passed_packs}
 use Rattle.lane_worker.specs.Endings.{gate_failed}
 use Rattle.lane_worker.specs.Works.{AreOpened}
-use Rattle.session_history.specs.Deeds.{Deed, Worked, Served, LaneDeed}
+use Rattle.lane_changes.specs.Stints.{LaneDeed}
+use Rattle.session_history.specs.Deeds.{Deed, Worked, Changed, Served, works_in}
 use Rattle.session_history.specs.Rows.{StandsIn, is_whole}
 
 -- the weighing of a pack that passed stands in a list, as a row of this lane
@@ -55,7 +56,8 @@ pub record OpensBehindRows (rows : List Entry) (lane : ℕ) (did : LaneDeed) : T
   pub told : OpensForReleased (is_whole did.end.stop) (released did.work.rows) did.work.opened
   pub count : did.end.opened ≡ length did.work.opened
 
--- so it is of a lane; a door has no gate
+-- so it is of a lane, and of each work of one that changes its batch; a door has no gate
 abbrev pub OpensRight : List Entry → ℕ → Deed → Type 0
 OpensRight rows lane (Worked did) = OpensBehindRows rows lane did
+OpensRight rows lane (Changed did) = All (OpensBehindRows rows lane) (works_in did.stints)
 OpensRight rows by (Served did) = Unit {0}

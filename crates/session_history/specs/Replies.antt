@@ -1,5 +1,5 @@
 -- What was answered in a session, held against the rows that it leaves.
-use Rattle.std.specs.Prelude.{◌≡◌, ◌⊎◌, ⊤, ℕ, ◌≤◌, true, List, length, All, Option, Some, None, IsSome, Result, Ok, Err}
+use Rattle.std.specs.Prelude.{◌≡◌, ◌⊎◌, ⊤, ℕ, ◌≤◌, true, List, length, flat_map, All, Option, Some, None, IsSome, Result, Ok, Err}
 use Rattle.book_words.specs.declared.act.Act.TheVariants.{Close}
 use Rattle.book_words.specs.declared.act.Ask.{Ask}
 use Rattle.book_words.specs.declared.act.Entry.{Entry}
@@ -22,7 +22,8 @@ use Rattle.office_door.specs.Served.{Visit, IsServed}
 use Rattle.office_wire.specs.declared.types.OfficeAsk.{OfficeAsk}
 use Rattle.office_wire.specs.declared.types.OfficeAsk.TheVariants as office
 use Rattle.session_jobs.specs.Sessions.{weighs}
-use Rattle.session_history.specs.Deeds.{Deed, Worked, Served, LaneDeed}
+use Rattle.lane_changes.specs.Stints.{LaneDeed}
+use Rattle.session_history.specs.Deeds.{Deed, Worked, Changed, Served, works_in}
 
 -- An error to an ask is right in a list. A refusal is the book's answer over the entries that it
 -- names, with which the list begins. The disk failed only where an entry would have been added
@@ -54,6 +55,8 @@ pub record RespondsRight (limit by : ℕ) (rows : List Entry) (visits : List Vis
 -- every reply of a job is right in these rows
 abbrev pub RepliesRight : ℕ → ℕ → List Entry → ℕ → Deed → Type 0
 RepliesRight limit room rows lane (Worked did) = EndsRight limit room rows lane did
+RepliesRight limit room rows lane (Changed did) =
+    All (EndsRight limit room rows lane) (works_in did.stints)
 RepliesRight limit room rows by (Served did) = RespondsRight limit by rows did.visits
 
 -- a refusal that is kept in a worker's end names at least the rows of before, and the worker's own
@@ -62,14 +65,27 @@ NamesOwnRows before own (stop.Refused refused) =
     (length before ≤ refused.at) × All (λ (row : Row). row.number ≤ refused.at) own
 NamesOwnRows before own _ = Unit {0}
 
+-- a worker's rows stand behind all that it had seen when it was told of its lane, each behind the one
+-- before; and a refusal that ended its work names all of these
+abbrev pub NamesAtWork : List Entry → List Entry → ℕ → LaneDeed → Type 0
+NamesAtWork before rows lane did =
+    StandBehind rows lane (length did.work.asked) did.work.rows
+    × NamesOwnRows before did.work.rows did.end.stop
+    × NamesAsked did.work.asked did.end.stop
+
 -- The places that a door's answers name never fall, and none is before the rows of before. A worker's
 -- rows stand behind all that it had seen when it was told of its lane, each behind the one before;
--- and a refusal that ended its work names all of these.
+-- and a refusal that ended its work names all of these. So it is of each work of a lane that changes
+-- its batch; and all its rows stand behind those of before, each behind the one before.
 abbrev pub NamesWhatWasSeen : List Entry → List Entry → ℕ → Deed → Type 0
 NamesWhatWasSeen before rows lane (Worked did) =
     StandBehind rows lane (length did.work.asked) did.work.rows
     × NamesOwnRows before did.work.rows did.end.stop
     × NamesAsked did.work.asked did.end.stop
+NamesWhatWasSeen before rows lane (Changed did) =
+    All (NamesAtWork before rows lane) (works_in did.stints)
+    × StandBehind rows lane (length before)
+    (flat_map (λ (d : LaneDeed). d.work.rows) (works_in did.stints))
 NamesWhatWasSeen before rows by (Served did) =
     NeverFall (length before) (places_of (all_exchanges did.visits)) (length rows)
 
@@ -86,5 +102,6 @@ TellsVerdict rows told given = Unit {0}
 -- each verdict that a job was told is that over these rows; a lane closes nothing
 abbrev pub TellsVerdicts : List Entry → ℕ → Deed → Type 0
 TellsVerdicts rows lane (Worked did) = Unit {0}
+TellsVerdicts rows lane (Changed did) = Unit {0}
 TellsVerdicts rows by (Served did) =
     All (λ (x : Exchange). TellsVerdict rows x.told x.given) (all_exchanges did.visits)

@@ -13,11 +13,14 @@ use Rattle.lane_worker.specs.declared.ending.LaneStop.TheVariants as stop
 use Rattle.lane_worker.specs.Works.{asks_of_work}
 use Rattle.office_door.specs.Doors.{all_exchanges}
 use Rattle.office_door.specs.Exchanges as exchanges
-use Rattle.session_history.specs.Deeds.{Deed, Worked, Served, LaneDeed, Share, caller_of}
+use Rattle.lane_changes.specs.Stints.{LaneDeed}
+use Rattle.session_history.specs.Deeds.{Deed, Worked, Changed, Served, Share, caller_of, works_in}
 
--- the rows that a job added, in order: those of a lane's worker, or those of a door's requests
+-- the rows that a job added, in order: those of a lane's worker, those of each work of a lane that
+-- changes its batch, or those of a door's requests
 abbrev pub rows_added : Deed → List Row
 rows_added (Worked did) = did.work.rows
+rows_added (Changed did) = flat_map (λ (d : LaneDeed). d.work.rows) (works_in did.stints)
 rows_added (Served did) = exchanges.rows_of (all_exchanges did.visits)
 
 -- behind the rows of before, those that bear a job's number are those that it added, in order
@@ -58,9 +61,12 @@ pub record AddsItsActs (before rows : List Entry) (lane : ℕ) (did : LaneDeed) 
       → asks_of_work lane did.batch did.work ≡ did.work.answered
   pub weighed : is_whole did.end.stop ≡ true → grosses_told did.work.rows ≡ did.work.grosses
 
--- what a lane added are the acts of its work; what a door added are its requests, by its replies
+-- what a lane added are the acts of its work, or of its works, one after another; what a door added
+-- are its requests, by its replies
 abbrev pub AddsActs : List Entry → List Entry → ℕ → Deed → Type 0
 AddsActs before rows lane (Worked did) = AddsItsActs before rows lane did
+AddsActs before rows lane (Changed did) =
+    All (AddsItsActs before rows lane) (works_in did.stints)
 AddsActs before rows by (Served did) = Unit {0}
 
 -- all rows that the jobs were told of as theirs
