@@ -18,7 +18,7 @@ use Rattle.office_door.specs.declared.ending.DoorStop.TheVariants as door
 use Rattle.office_door.specs.Doors as doors
 use Rattle.script_lines.specs.declared.command.Line.{Line}
 use Rattle.script_lines.specs.declared.command.Line.TheVariants as line
-use Rattle.serve_run.specs.Deeds.{Deed, DidSo, HasDone, Served as served, Share, Worked, faults_of}
+use Rattle.serve_run.specs.Deeds.{Deed, DidSo, HasDone, Served as served, Share, Worked, Changed, faults_of}
 use Rattle.serve_run.specs.Works.{Work, Lane, Door}
 use Rattle.serve_run.specs.Setups.{MayStopAtLine, after_lines}
 use Rattle.store_runs.specs.Books.{BookState}
@@ -51,6 +51,8 @@ none_passes test (x ∷ xs) none =
 lane_done : (stop : LaneStop) → is_early_stop stop ≡ false → is_spent_stop stop ≡ false
     → lane_lacks stop ≡ false → faults_at stop ≡ 0 → stop ≡ lane.Done
 lane_done lane.Done early spent lack calm = refl
+lane_done (lane.Change batch line) early spent lack calm = no early
+lane_done (lane.Idle weights) early spent lack calm = no early
 lane_done lane.Cell early spent lack calm = no early
 lane_done lane.Gate early spent lack calm = no early
 lane_done (lane.Bad line) early spent lack calm = no early
@@ -112,9 +114,13 @@ module _ {L O : Type 0} (lane_at : Known → L → lanes.Site) (door_at : Known 
   one_calm first last (Lane was) (Lane now) (Worked did) done none ends all =
       subst (λ (end : Option LaneEnd). All IsCalm (cons_option end ends)) (sym done.end)
       (All-cons IsCalm did.end ends none all)
+  one_calm first last (Lane was) (Lane now) (Changed did) done none ends all =
+      subst (λ (end : Option LaneEnd). All IsCalm (cons_option end ends)) (sym done.end)
+      (All-cons IsCalm did.end ends none all)
   one_calm first last (Door was) (Door now) (served did) done none ends all = all
   one_calm first last (Lane was) (Lane now) (served did) done none ends all = absurd done
   one_calm first last (Door was) (Door now) (Worked did) done none ends all = absurd done
+  one_calm first last (Door was) (Door now) (Changed did) done none ends all = absurd done
   one_calm first last (Lane was) (Door now) did done none ends all = absurd done
   one_calm first last (Door was) (Lane now) did done none ends all = absurd done
 
