@@ -73,6 +73,7 @@ module _ (Went Tells : Known → Known → List Ask → Type 0)
     → BrokeOn was now answered next why → Breaks was now answered next why) where
   once_as : (was : lanes.Site) (stint : Stint) (now : lanes.Site)
       → DidOnce Went BrokeOn lane was stint now → DidOnce Tells Breaks lane was stint now
+  unfolding work_as
   once_as was (WorkStint did) now once = record {
     is = work_as (Went was.caller now.caller) (Tells was.caller now.caller)
         (BrokeOn was.caller now.caller) (Breaks was.caller now.caller) was now lane did.batch did.end
