@@ -22,6 +22,7 @@ const FEW_ROWS: u32 = 50_000;
 const LAST_PART: u32 = 100;
 
 // A lane at work: for its batch, or for those that its cell says.
+#[derive(Clone, Copy)]
 struct Job {
     lane: u8,
     batch: Option<Name>,
@@ -38,6 +39,7 @@ impl fmt::Display for Job {
 }
 
 // A refusal by its number and its name, and how many rows the book had.
+#[derive(Clone, Copy)]
 struct ShortRefusal(Refused);
 
 impl fmt::Display for ShortRefusal {
