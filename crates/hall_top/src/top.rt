@@ -35,7 +35,8 @@ use std::thread::Threads;
 /// lanes and all doors that are handed in are at work at once, each lane on its own batch, each act
 /// answered by the one book; when the last has ended, and where rows were added, a snapshot is kept,
 /// and each lane's line, each door's line and the summary are printed. The plan names a batch for
-/// each lane, the first for the first lane.
+/// each lane, the first for the first lane, or says that the lane changes it: its cell names the
+/// batches then, one after another.
 ///
 /// `report` prints the sheets of all batches in order of opening, and the summary; with `--batch`
 /// that one sheet, or the line that there is no such batch. `export` prints the register of all
