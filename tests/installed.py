@@ -1,8 +1,8 @@
 """The commands of docs/OPERATING.md, word for word, in a booted Debian: from the installation to
 served days of three books at three addresses. Run by tests/package.sh.
 
-usage: installed.py DEBIAN      a folder with a Debian, which has in /root hall_*.deb, a checkout, and
-                                the programs `program` and, where it was built, `prove`
+usage: installed.py DEBIAN      a folder with a Debian, which has in /root hall_*.deb, a checkout,
+                                and the programs `program` and, where it was built, `prove`
 """
 
 import json
@@ -31,6 +31,8 @@ PLACES = """
     /usr/share/doc/hall/examples/papers/released.txt /usr/share/doc/hall/docs/screen_board.png
 """.split()
 LINK = re.compile(r"\]\(([^)#]+)(?:#[^)]*)?\)")
+# A link elsewhere, or to what stands in the repository alone, or elsewhere in a package.
+SOURCE = re.compile(r"https?:|(\.\./)*(crates|tests|bench|tools|prove|www|inspector|adapters)\b")
 
 
 def read_blocks(page: str) -> dict[str, list[str]]:
@@ -113,7 +115,7 @@ class Served:
 
 
 def check_files(debian: Debian, how: str) -> None:
-    """Everything is there, and a link of a page leads to a file that is there, or to the sources."""
+    """Everything is there, and a link of a page leads to a file there, or to the sources."""
     for place in PLACES:
         debian.run(f"[ -s {place} ]", 0)
     debian.run(
@@ -127,8 +129,7 @@ def check_files(debian: Debian, how: str) -> None:
         text = debian.run(f"cat /usr/share/doc/hall/{page}", 0)
         here = page.rpartition("/")[0]
         for link in set(LINK.findall(text)):
-            is_source = re.match(r"(https?:|(\.\./)*(crates|tests|bench|tools|prove|www)\b)", link)
-            if not is_source:
+            if not SOURCE.match(link):
                 debian.run(
                     f"[ -e '/usr/share/doc/hall/{here}/{link}' ]"
                     f" || {{ echo {page} names {link}; false; }}",

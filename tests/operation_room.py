@@ -223,7 +223,8 @@ class PipeScale(threading.Thread):
         self.given, self.every = given, every
         self.cell = os.open(f"{folder}/cell-{lane}.txt", os.O_RDWR)
         self.gate = os.open(f"{folder}/gate-{lane}.txt", os.O_RDWR | os.O_NONBLOCK)
-        self.is_done = threading.Event()
+        self.sent: list[str] = []
+        self.enough, self.is_done = threading.Event(), threading.Event()
         self.opened: list[int] = []
         self.held = b""
         self.lock = threading.Lock()
@@ -231,8 +232,10 @@ class PipeScale(threading.Thread):
     def run(self) -> None:
         for weight in self.given:
             os.write(self.cell, f"{grams(weight)}\n".encode())
+            self.sent.append(weight)
             self.count_opened()
-            time.sleep(self.every)
+            if self.enough.wait(self.every):
+                break
         self.is_done.set()
 
     def count_opened(self) -> int:
@@ -260,14 +263,17 @@ class NetworkScale(threading.Thread):
                 [sys.executable, SENDER, str(port), "--seconds=3", *words],
                 stdin=subprocess.PIPE, stdout=said, stderr=errors)  # fmt: skip
         Service.running.append(self.process)
-        self.is_done = threading.Event()
+        self.sent: list[str] = []
+        self.enough, self.is_done = threading.Event(), threading.Event()
 
     def run(self) -> None:
         assert self.process.stdin
         for weight in self.given:
             self.process.stdin.write(f"{grams(weight)}\n".encode())
             self.process.stdin.flush()
-            time.sleep(self.every)
+            self.sent.append(weight)
+            if self.enough.wait(self.every):
+                break
         self.process.stdin.close()
         self.is_done.set()
 
