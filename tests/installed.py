@@ -144,7 +144,7 @@ def first_day(debian: Debian, served: Served, blocks: list[str]) -> None:
     need("rows 4" in said, f"the book begins with {said}")
     served.let_in("anna", debian.step(site))
     address = ADDRESSES[0]
-    need("<title>hall</title>" in served.text("anna", address, "/"), "the board")
+    served.waits_for("anna", address, "/", "<title>hall</title>")
     need(debian.step(lane).split("\n")[:2] == ["open 6", "open 8"], "the gate opens for 6 and 8")
     said = debian.run("hall-status 2026-12 2>&1")
     need("lane 1" in said and "MORNING" in said, f"hall-status says {said}")
@@ -251,10 +251,12 @@ def start_again(debian: Debian, served: Served) -> None:
 
 def by_hand(debian: Debian, served: Served, command: str) -> None:
     """Purged, and installed from a checkout in place of the package: the same is in its place."""
+    # halls that end in good order end their lanes, and keep a snapshot
+    debian.run("systemctl stop 'hall@*' nginx", 0)
     sums = debian.run("cd /var/lib/hall && sha256sum *.book", 0)
     files = "find /usr /lib/systemd /etc/hall -xdev -path '*hall*' -type f | sort"
     before = debian.run(f"{files} | grep -v '/doc/hall/c\\|dpkg'", 0)
-    debian.run("systemctl stop 'hall@*' nginx && apt-get purge -y hall", 0)
+    debian.run("apt-get purge -y hall", 0)
     left = debian.run(
         "ls -d /usr/bin/hall* /usr/share/hall /etc/hall/*/people /lib/systemd/system/"
         "hall* 2>/dev/null || true"

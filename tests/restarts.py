@@ -3,7 +3,6 @@ tests/operation.py over pipes and over ports."""
 
 # mypy: allow-untyped-calls
 
-import os
 import re
 import time
 from collections.abc import Sequence
@@ -87,6 +86,12 @@ def compare(place: Place, given: list[list[str]]) -> int:
     return len(packs)
 
 
+def compare_gates(place: Place, scales: Sequence[PipeScale | NetworkScale]) -> None:
+    rows = [int(pack["pack"]) for pack in place.packs()]
+    opened = sorted(row for scale in scales for row in scale.gate.opened)
+    need(opened == rows, "each gate opened once for each pack of its lane")
+
+
 def difference(lane: int, stands: list[str], wanted: list[str]) -> str:
     """Where the packs of a lane differ first from the weights that were sent."""
     sent = [grams(weight) for weight in wanted]
@@ -112,12 +117,11 @@ def restarts_over_pipes(place: Place, times: int) -> None:
     last.wait_until_served()
     sent = finish(scales)
     for scale in scales:
-        wait_for(lambda: scale.count_opened() == len(scale.sent), "each pack was let out")
+        wait_for(lambda: scale.gate.count() == len(scale.sent), "each pack was let out")
     status, _ = last.stop()
     need(status == 0, f"the last end has status {status}: {last.errors()}")
     count = compare(place, sent)
-    rows = [int(pack["pack"]) for pack in place.packs()]
-    need(sorted(row for scale in scales for row in scale.opened) == rows, "each gate opened once")
+    compare_gates(place, scales)
     need(seen.idle * 10 <= times, f"at {seen.idle} of {times} starts a lane had no pack")
     seen.tell("pipes", count)
 
@@ -127,16 +131,12 @@ def restarts_over_ports(place: Place, times: int) -> None:
     asks the book."""
     place.script("")
     text = plan_of(["A", "B"])
-    for lane in range(1, LANES + 1):
-        os.mkfifo(f"{place.run}/gate-{lane}.txt")
     remote = place.port + 4
     tunnel = Tunnel(remote + 1)
     given = [weights(lane, times * PACKS) for lane in range(1, LANES + 1)]
     book = ("--book", f"http://127.0.0.1:{place.port}", "--lane", "2")
     scales = [NetworkScale(place.folder, lane, port, given[lane - 1], EVERY, words)
               for lane, port, words in ((1, remote, ()), (2, tunnel.port, book))]  # fmt: skip
-    readers = [os.open(f"{place.run}/gate-{lane}.txt", os.O_RDWR | os.O_NONBLOCK)
-               for lane in range(1, LANES + 1)]  # fmt: skip
     for scale in scales:
         scale.start()
     seen = restart(place, text, times, OVER_PORTS, REMOTE=remote)
@@ -146,14 +146,14 @@ def restarts_over_ports(place: Place, times: int) -> None:
     for scale in scales:
         status = scale.process.wait(3600)
         need(status == 0, f"a sender ends with {status}: {scale.complaints()}")
+        wait_for(lambda: scale.gate.count() == len(scale.sent), "each pack was let out")
     status, _ = last.stop()
     need(status == 0, f"the last end has status {status}: {last.errors()}")
     count = compare(place, sent)
+    compare_gates(place, scales)
     for scale in scales:
         need(scale.acknowledged() == [grams(weight) for weight in scale.sent],
              "each weight was acknowledged once, in order")  # fmt: skip
-    for reader in readers:
-        os.close(reader)
     seen.tell("ports", count)
 
 
@@ -162,10 +162,6 @@ def lost_acknowledgement(place: Place) -> None:
     book asked it stands once; without it stands twice, and is reported."""
     place.script("")
     text = plan_of(["A", "B"])
-    for lane in range(1, LANES + 1):
-        os.mkfifo(f"{place.run}/gate-{lane}.txt")
-    readers = [os.open(f"{place.run}/gate-{lane}.txt", os.O_RDWR | os.O_NONBLOCK)
-               for lane in range(1, LANES + 1)]  # fmt: skip
     remote = place.port + 4
     tunnels = [Tunnel(remote), Tunnel(remote + 1)]
     book = f"http://127.0.0.1:{place.port}"
@@ -196,8 +192,6 @@ def lost_acknowledgement(place: Place) -> None:
     twice = [given[0][:4] + given[0][3:], given[1]]
     compare(place, twice)
     need([scale.complaints().count("\n") for scale in scales] == [1, 0], "the doubt is reported")
-    for reader in readers:
-        os.close(reader)
 
 
 def send(scale: NetworkScale, begin: int, end: int) -> None:
