@@ -223,7 +223,8 @@ def standby(book):
     os.killpg(process.pid, signal.SIGKILL)
     scale.ending.set()
     hall.kill()
-    print(f"standby over {ahead.now()} rows, {len(waits) / SECONDS:.0f} new a second: {percent:.1f} %"
+    print(f"standby over {ahead.now()} rows, {len(waits) / SECONDS:.0f} new a second: {percent:.1f}"
+          f" %"
           f" of a processor, {max(waits):.2f} s behind at most, {waits[len(waits) // 2]:.2f} s the"
           " median")
 

@@ -3,12 +3,12 @@
 #
 # Text: a book of ROWS rows made by a script of weighings; `acts` of it beside `check`, which opens
 # it and no more, and sqlite3 that prints as many lines of a table in a file. The ratio is the time
-# of `acts` beyond `check` to that of sqlite3 (aim 1.0); and its memory, as bytes a row above that of
-# `check` (aim 16). Best of three, in turn, each process whole, to a file.
+# of `acts` beyond `check` to that of sqlite3 (aim 1.0); and its memory, as bytes a row above that
+# of `check` (aim 16). Best of three, in turn, each process whole, to a file.
 #
 # Follower: four lanes from files on a book in memory and on one in a file of the folder, alone and
-# beside a client that asks each 100 ms for all that is new (`/acts/N`): rows a second until the last
-# lane has ended, and the part that is lost (aim 3 %). Best of five, in turn.
+# beside a client that asks each 100 ms for all that is new (`/acts/N`): rows a second until the
+# last lane has ended, and the part that is lost (aim 3 %). Best of five, in turn.
 #
 # Standby: over the book of ROWS rows a hall weighs 140 packs a second on four lanes, and
 # examples/standby.sh keeps a copy on the same machine, by a door of its own. For SECONDS, once the

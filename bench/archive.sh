@@ -1,6 +1,6 @@
 #!/bin/sh
-# How fast the archive takes a book in, begins anew, prints its register, hashes its rows and answers
-# questions: over SQLite, and over a PostgreSQL that it starts itself.
+# How fast the archive takes a book in, begins anew, prints its register, hashes its rows and
+# answers questions: over SQLite, and over a PostgreSQL that it starts itself.
 #
 # usage: bench/archive.sh [ROWS]      900000 without a number
 # needs: root, and of Debian what tests/archive.sh needs. Done in 5 minutes.

@@ -1,8 +1,8 @@
 #!/bin/sh
 # Measures the rows that the journal appends to a file, without the book above it: a program that
-# answers each row, beside two bare loops of the same two writes and two data syncs a row, over zeros
-# that were written before and in a file that each row makes longer. Rows a second, best of five, in
-# turn. BEFORE names a clone of another state, whose journal is measured beside it.
+# answers each row, beside two bare loops of the same two writes and two data syncs a row, over
+# zeros that were written before and in a file that each row makes longer. Rows a second, best of
+# five, in turn. BEFORE names a clone of another state, whose journal is measured beside it.
 #
 # usage: bench/rows.sh FOLDER [ROWS]      2 000 rows if it isn't named
 set -eu

@@ -2,13 +2,13 @@
 """Writes what is new of a book as shipments, one behind the other, for one `hall follow
 --shipments 1000000` that stays open. For standby.sh, which says what it is for.
 
-usage: shipments.py BOOK ROWS     ROWS is how many rows the copy has of the book's; HALL, DOOR, EVERY
-                                  and TIMES in the environment as standby.sh has them
+usage: shipments.py BOOK ROWS     ROWS is how many rows the copy has of the book's; HALL, DOOR,
+                                  EVERY and TIMES in the environment as standby.sh has them
 
 At the door each look asks for the rows behind those that were written (`/rows/N`), so its cost
-grows with what is new. Where nothing answers there, or without DOOR, the file is shipped whenever it
-has changed. `book N rows, copy M` goes to descriptor 3 each second: M is what was taken out of the
-pipe.
+grows with what is new. Where nothing answers there, or without DOOR, the file is shipped whenever
+it has changed. `book N rows, copy M` goes to descriptor 3 each second: M is what was taken out of
+the pipe.
 
 Status 0: TIMES looks were made. 3: nobody reads any more, the shipments of one `follow` are used
 up, or the book has fewer rows than before. 2: the hall at the door serves another book.

@@ -7,11 +7,11 @@
 # usage: standby.sh BOOK COPY [COMMAND [WORD..]]    as: standby.sh day.book day.copy ssh hall@second
 #
 # COMMAND runs `hall` where the copy is; without it that is this machine. HALL is the program
-# (hall). DOOR is a port of the hall that serves the book, which nobody else asks at; without it, and
-# while no hall is there, the book's file is shipped whenever it has changed. EVERY is the seconds
-# between two looks for what is new (0.2), TIMES how many there are (without it there is no end).
+# (hall). DOOR is a port of the hall that serves the book, which nobody else asks at; without it,
+# and while no hall is there, the book's file is shipped whenever it has changed. EVERY is the
+# seconds between two looks for what is new (0.2), TIMES how many there are (without it no end).
 #
-# At the start, and whenever `follow` ends, the first rows of both are compared by their fingerprint.
+# At the start, and whenever `follow` ends, the first rows of both are compared by fingerprint.
 # It ends with status 1 where the copy isn't a beginning of the book, or is one of another hall than
 # that at DOOR, or where a path, a command or a book can't be used; with 2 at wrong words.
 set -u

@@ -167,7 +167,8 @@ class Program:
                 found += page
                 after = int(page[-1].split()[0])
             need(found == lines, "the pages at a door aren't the text")
-            for after in {0, chance.randint(0, len(lines)), len(lines), len(lines) + 1, 4_294_967_295}:
+            drawn = chance.randint(0, len(lines))
+            for after in {0, drawn, len(lines), len(lines) + 1, 4_294_967_295}:
                 need(self.asked(link, f"/rows/{after}", len(lines)) == shipment(slots, after),
                      f"the rows behind {after} are another shipment")
                 text = "".join(f"{line}\n" for line in lines[after : after + PAGE])

@@ -145,7 +145,7 @@ class Browser:
         need(choice.get_attribute("value") == str(desk), f"desk {desk} isn't chosen by its keys")
 
     def open_form(self, kind):
-        """Opens the form of an act by the search of the menu, where it isn't open; says its place."""
+        """Opens the form of an act by the menu's search, where it isn't open; says its place."""
         form = f"#act-{kind}"
         self.find("#find-act")
         if not self.run("return document.querySelector(arguments[0])", form):
@@ -243,6 +243,6 @@ def cut_between(browser, book, enter, down=False):
     before = os.stat(book).st_mtime_ns
     browser.relay.slow = True
     enter()
-    wait_until(lambda: os.stat(book).st_mtime_ns > before, "the row of the act whose answer is lost")
+    wait_until(lambda: os.stat(book).st_mtime_ns > before, "the row of an act whose answer is lost")
     browser.relay.down = down
     browser.relay.cut()

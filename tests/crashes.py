@@ -34,8 +34,8 @@ class Call(NamedTuple):
 
 
 class Image(NamedTuple):
-    """What a crash leaves, how many rows were answered by then, and whether other bytes stand in the
-    room than zeros, as where a file system gives a file what its blocks held before."""
+    """What a crash leaves, how many rows were answered by then, and whether other bytes stand in
+    the room than zeros, as where a file system gives a file what its blocks held before."""
 
     number: int
     content: bytes

@@ -25,6 +25,23 @@ PIECE, BLOCK = 65_536, 4096
 # ext4's call to shut a file system down, and its word for: without writing what is still held.
 SHUTDOWN = 0x8004587D
 NOTHING_WRITTEN = 2
+# How many requests go over one connection, of the 1 000 that a door takes; how many it serves.
+ASKED, CONNECTIONS = 500, 9
+
+
+class Caller(Link):
+    """A connection to a door, and a new one behind so many requests."""
+
+    def __init__(self, port):
+        super().__init__(port)
+        self.port, self.asked = port, 0
+
+    def ask(self, request):
+        if self.asked == ASKED:
+            self.socket.close()
+            Caller.__init__(self, self.port)
+        self.asked += 1
+        return super().ask(request)
 
 
 def leave(room):
@@ -82,8 +99,8 @@ def full_in_a_run():
 
 
 def full_at_pieces():
-    """Rows go on without room ahead where the disk has none for a piece of it, until none fits; with
-    room again the same book goes on, and its snapshot ends it."""
+    """Rows go on without room ahead where the disk has none for a piece of it, until none fits;
+    with room again the same book goes on, and its snapshot ends it."""
     counts = []
     for room in (0, BLOCK, PIECE - BLOCK, PIECE, PIECE + BLOCK, 2 * PIECE - BLOCK, 3 * PIECE):
         small = Book(program, f"{disk}/small", [])
@@ -127,11 +144,11 @@ def full_at_the_snapshot():
 def start(batch):
     """A hall with a lane that weighs and a door, and a connection to it."""
     hall = Hall(program, f"{work}/lanes", plan(f"open {batch} P\n", [batch]), book=book.path,
-                lanes=1, doors=1, port=free_ports())
+                lanes=1, doors=1, port=free_ports(), connections=CONNECTIONS)
     lane = Lane(hall, 1, ([drawn_gross(draw) for _ in range(20)] for _ in range(400)))
     lane.start()
     hall.wait_for_door(hall.ports[0])
-    link = Link(hall.ports[0])
+    link = Caller(hall.ports[0])
     desk.catch_up(link)
     return hall, lane, link
 
@@ -153,7 +170,7 @@ def ask_until_it_fails(link, seconds=60):
 def ended(hall, lane, link):
     """The hall's end, where its disk has failed."""
     link.socket.close()
-    status = hall.wait(60)
+    status = hall.drain(60)
     lane.finish()
     said = hall.said()
     need(status == 6 and said[-1] == "disk fault", f"serve ends with {status}: {said}")

@@ -279,9 +279,10 @@ def no_descriptor(port):
     need(took <= SOON, f"behind a time without a descriptor an answer takes {took:.1f} s")
     status = hall.wait(30)
     with open(f"{hall.folder}/errors", encoding="utf-8") as errors:
-        told = errors.read().splitlines()
-    need(status == 0 and len(told) == 1 and "can't take a connection" in told[0],
-         f"status {status}, told {told}")
+        begun, *told, done = errors.read().splitlines()
+    need(begun.startswith("hall: serving, ") and done == "hall: door 1: done"
+         and status == 0 and len(told) == 1 and "can't take a connection" in told[0],
+         f"status {status}, told {begun}, {told}, {done}")
     print(f"no descriptor for 2 s: served {took:.2f} s behind it; told: {told[0]}", flush=True)
 
 

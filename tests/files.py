@@ -108,7 +108,7 @@ os.rename("d", "e")
 need(hall.ask(b"product P 250\n") == b"2 ok\n", "a folder with another name is a fault")
 need(hall.end() == (0, ""), "a folder with another name is a fault at the end")
 
-# A book with room ahead: zeros up to the end of a piece, while its hall runs and where it was killed.
+# A book with room ahead: zeros up to the end of a piece, while its hall runs and after a kill.
 PIECE = 65_536
 LAST = b"product P 250\n"
 os.remove("e/book")
@@ -154,7 +154,7 @@ for copy in (older, older[:SLOT * 2 + 1], newer[:SLOT * 3 + 1], newer + b"\0", b
     hall = Hall("e/book")
     need(hall.ask(DAY) + hall.ask(LAST) == b"1 ok\n2 ok\n", "the rows aren't answered")
     put("e/book", copy)
-    need(hall.ask(LAST.replace(b"P", b"Q")) == b"disk fault\n", "a row in an older copy is answered")
+    need(hall.ask(LAST.replace(b"P", b"Q")) == b"disk fault\n", "a row in an old copy is answered")
     need(hall.end() == (6, OVERWRITTEN) and content("e/book") == copy, "an older copy is written")
 # The same bytes are no fault, whoever wrote them.
 put("e/book", b"")

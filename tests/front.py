@@ -24,8 +24,12 @@ PROMPT, HELD = 2.0, 8.0
 PATIENCE = 10.0
 # How many rows an answer of the office has at most.
 PAGE = 128
-# Seconds in which a crowd of 200 is done, also on a machine that has hardly a processor to spare.
-CROWD = 400.0
+# How many connections a crowd has, and how often each asks; seconds in which it is done, however
+# busy the machine, since the front says 502 behind its patience; and how many questions are
+# answered.
+CONNECTIONS, QUESTIONS = 200, 10
+CROWD = QUESTIONS * (PATIENCE + 2)
+SERVED = CONNECTIONS * QUESTIONS // 2
 
 
 def compare_book(front, book, setup):
@@ -143,7 +147,8 @@ UNREADABLE = [
 
 
 REASONS = [
-    "torn", "", "it's \"twice\"", "C:\\rice\\", "two\nlines\tand a tab", "Beutel gerissen: äöüß €", "🍚",
+    "torn", "", "it's \"twice\"", "C:\\rice\\", "two\nlines\tand a tab",
+    "Beutel gerissen: äöüß €", "🍚",
     '","desk":103,"x":"', '{"act":"end"}', "\\u0064esk", "\x00\x1f\x7f", "a" * 3500,
 ]
 
@@ -280,16 +285,16 @@ def links_to_doors():
 
 
 def check_many(front):
-    """200 connections at once, of which each asks ten times; the doors go on serving anna. On a
-    busy machine some are told that no door was free, not before the front's patience is over."""
+    """A crowd at once; the doors go on serving anna. On a busy machine some are told that no door
+    was free, not before the front's patience is over."""
     answers, unserved, held = [], [], []
-    ready = threading.Barrier(201)
+    ready = threading.Barrier(CONNECTIONS + 1)
 
-    def ask_ten(number):
+    def ask_all(number):
         ben = Person(front, "ben", f"127.0.0.{10 + number % 4}")
         with connect(ben.source) as link:
             ready.wait()
-            for _ in range(10):
+            for _ in range(QUESTIONS):
                 began = time.monotonic()
                 link.sendall(ben.head("GET", "/hall/summary"))
                 status = Reply(link).status
@@ -297,8 +302,8 @@ def check_many(front):
                 if status == 502:
                     unserved.append(time.monotonic() - began)
 
-    askers = [threading.Thread(target=ask_ten, args=(number,), daemon=True)
-              for number in range(200)]
+    askers = [threading.Thread(target=ask_all, args=(number,), daemon=True)
+              for number in range(CONNECTIONS)]
     for asker in askers:
         asker.start()
     ready.wait()
@@ -308,9 +313,10 @@ def check_many(front):
     waits = asked_meanwhile(front, 3)
     for asker in askers:
         asker.join(max(0, ready_at + CROWD - time.monotonic()))
+    took = time.monotonic() - ready_at
     told = {status: answers.count(status) for status in set(answers)}
-    need(len(answers) == 2000 and set(told) <= {200, 429, 502} and 200 in told,
-         f"200 connections were told {told}")
+    need(len(answers) == CONNECTIONS * QUESTIONS and set(told) <= {200, 429, 502}
+         and told.get(200, 0) > SERVED, f"a crowd was told {told} in {took:.1f} s")
     need(min(unserved, default=PATIENCE) > 0.9 * PATIENCE,
          f"no door was free for {min(unserved, default=0):.2f} s, and 502 was said")
     need(held[0] <= 2, f"{held[0]} connections are held to two doors")
@@ -318,7 +324,7 @@ def check_many(front):
     said = spell(*waits)
     need(unserved or max(waits[0]) < HELD, f"anna was kept waiting in a crowd: {said}")
     need_prompt(*asked_meanwhile(front, 2))
-    print(f"front: 200 connections were told {told}; meanwhile {said}; "
+    print(f"front: {CONNECTIONS} connections were told {told} in {took:.1f} s; meanwhile {said}; "
           f"{held[0]} connections to the doors")
 
 

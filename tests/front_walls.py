@@ -1,5 +1,5 @@
-"""The edge of the front: TLS and names in it, two halls at one front, and the walls (deploy/hall.nft)
-around the ports of doors and scales. Run by tests/front.py."""
+"""The edge of the front: TLS and names in it, two halls at one front, and the walls
+(deploy/hall.nft) around the ports of doors and scales. Run by tests/front.py."""
 
 import json
 import os

@@ -129,8 +129,8 @@ def come_and_gone(program, folder):
 
 
 def unread(program, folder):
-    """A gate without a reader: that is told, its lane fails as it is asked to end, and the pack that
-    stayed is settled so."""
+    """A gate without a reader: that is told, its lane fails as it is asked to end, and the pack
+    that stayed is settled so."""
     it = Scene(program, folder, lanes=1)
     with open(f"{folder}/cell-1.txt", "wb", buffering=0) as scale:
         scale.write(b"262\n")
@@ -237,8 +237,8 @@ def doors(program, folder):
 def refused(program, folder):
     """A lane whose batch isn't there says so at once, while a door has connections left."""
     port = next(PORTS)
-    it = Scene(program, folder, SETUP + LANE.replace('"A"', '"EVENNG"'), lanes=1, doors=1, port=port,
-               connections=9)
+    setup = SETUP + LANE.replace('"A"', '"EVENNG"')
+    it = Scene(program, folder, setup, lanes=1, doors=1, port=port, connections=9)
     it.wait_for("lane 1, batch EVENNG: refused 14 BatchUnknown at 4")
     need(not it.hall.ended(), "it ended")
     return it.check(10, ["lane 1 opened 0 refused 14 at 4", "door 1 served 0 links 0 done"], [])

@@ -1,8 +1,8 @@
 """The commands of docs/OPERATING.md, word for word, in a booted Debian: from the installation to
 served days of three books at three addresses. Run by tests/package.sh.
 
-usage: installed.py DEBIAN      a folder with a Debian, which has in /root hall_*.deb, a checkout, and
-                                the programs `program` and, where it was built, `prove`
+usage: installed.py DEBIAN      a folder with a Debian, which has in /root hall_*.deb, a checkout,
+                                and the programs `program` and, where it was built, `prove`
 """
 
 import json
@@ -31,6 +31,8 @@ PLACES = """
     /usr/share/doc/hall/examples/papers/released.txt /usr/share/doc/hall/docs/screen_board.png
 """.split()
 LINK = re.compile(r"\]\(([^)#]+)(?:#[^)]*)?\)")
+# A link elsewhere, or to what stands in the repository alone, or elsewhere in a package.
+SOURCE = re.compile(r"https?:|(\.\./)*(crates|tests|bench|tools|prove|www|inspector|adapters)\b")
 
 
 def read_blocks(page: str) -> dict[str, list[str]]:
@@ -113,7 +115,7 @@ class Served:
 
 
 def check_files(debian: Debian, how: str) -> None:
-    """Everything is there, and a link of a page leads to a file that is there, or to the sources."""
+    """Everything is there, and a link of a page leads to a file there, or to the sources."""
     for place in PLACES:
         debian.run(f"[ -s {place} ]", 0)
     debian.run(
@@ -127,8 +129,7 @@ def check_files(debian: Debian, how: str) -> None:
         text = debian.run(f"cat /usr/share/doc/hall/{page}", 0)
         here = page.rpartition("/")[0]
         for link in set(LINK.findall(text)):
-            is_source = re.match(r"(https?:|(\.\./)*(crates|tests|bench|tools|prove|www)\b)", link)
-            if not is_source:
+            if not SOURCE.match(link):
                 debian.run(
                     f"[ -e '/usr/share/doc/hall/{here}/{link}' ]"
                     f" || {{ echo {page} names {link}; false; }}",
@@ -143,7 +144,7 @@ def first_day(debian: Debian, served: Served, blocks: list[str]) -> None:
     need("rows 4" in said, f"the book begins with {said}")
     served.let_in("anna", debian.step(site))
     address = ADDRESSES[0]
-    need("<title>hall</title>" in served.text("anna", address, "/"), "the board")
+    served.waits_for("anna", address, "/", "<title>hall</title>")
     need(debian.step(lane).split("\n")[:2] == ["open 6", "open 8"], "the gate opens for 6 and 8")
     said = debian.run("hall-status 2026-12 2>&1")
     need("lane 1" in said and "MORNING" in said, f"hall-status says {said}")
@@ -250,10 +251,12 @@ def start_again(debian: Debian, served: Served) -> None:
 
 def by_hand(debian: Debian, served: Served, command: str) -> None:
     """Purged, and installed from a checkout in place of the package: the same is in its place."""
+    # halls that end in good order end their lanes, and keep a snapshot
+    debian.run("systemctl stop 'hall@*' nginx", 0)
     sums = debian.run("cd /var/lib/hall && sha256sum *.book", 0)
     files = "find /usr /lib/systemd /etc/hall -xdev -path '*hall*' -type f | sort"
     before = debian.run(f"{files} | grep -v '/doc/hall/c\\|dpkg'", 0)
-    debian.run("systemctl stop 'hall@*' nginx && apt-get purge -y hall", 0)
+    debian.run("apt-get purge -y hall", 0)
     left = debian.run(
         "ls -d /usr/bin/hall* /usr/share/hall /etc/hall/*/people /lib/systemd/system/"
         "hall* 2>/dev/null || true"

@@ -1,8 +1,8 @@
 #!/usr/bin/env python3
 """Draws books of a day and more at random, through the script line by line, and compares what
 `list` says of each with what is counted here from the rows of its file, by docs/RULES.md and
-FORMATS.md. Then a list of the first rows is carried on by the acts behind them (deploy/in_force.py),
-and is the same as what is counted behind each row.
+FORMATS.md. Then a list of the first rows is carried on by the acts behind them
+(deploy/in_force.py), and is the same as what is counted behind each row.
 
 usage: tests/list.py [BOOKS [SEED]]     (HALL names another program than the one that `./hall`
 builds)"""
@@ -131,8 +131,8 @@ def carried_on(program, book, limit, chance):
         return asked.times
 
 
-# What draws seldom come to, worked out by hand: a list, acts behind it, and the list then. Pack 8 is
-# of A; the tare of 2025-03-09 was 10 g once before, and is so again.
+# What draws seldom come to, worked out by hand: a list, acts behind it, and the list then. Pack 8
+# is of A; the tare of 2025-03-09 was 10 g once before, and is so again.
 BEGUN = """day 2025-03-03
 product P nominal 250.000 g tare 9.000
 tare P from 2025-03-09 11.000

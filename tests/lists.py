@@ -1,7 +1,7 @@
 #!/usr/bin/env python3
 """Whether tools/lists sees what it is for, on copies of the files that it reads: each item of each
-place is taken out in turn, and each list of the code gets one more item, which then has to be missed
-at each of its places.
+place is taken out in turn, and each list of the code gets one more item, which then has to be
+missed at each of its places.
 
 usage: tests/lists.py          needs: Python 3.11. Done in a minute.
 """
@@ -62,7 +62,8 @@ def without(place: Any, item: str, text: str) -> str:
         if "ITEM" in place.found:
             return WORD
         if item in map(lists.same, lists.items_of(place, match)):
-            return re.sub("[ _]?".join(map(re.escape, item.split()[-1])), WORD, match[0], flags=re.I)
+            spelled = "[ _]?".join(map(re.escape, item.split()[-1]))
+            return re.sub(spelled, WORD, match[0], flags=re.I)
         return match[0]
 
     found = place.found.replace("ITEM", lists.searched(item))

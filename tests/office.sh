@@ -6,8 +6,8 @@
 # desk voids a pack and loses the answer, asks again, ends the batch, draws it, measures what was
 # drawn, is refused a second sample, closes it and reads its sheet. Then it enters juice, which is
 # sold by volume: a batch of it without its density and one too light are refused, the next is
-# weighed on lane 1, measured whole and closed. At the end its rows are read by the page, as lines and
-# as a shipment. Each request is a connection of its own.
+# weighed on lane 1, measured whole and closed. At the end its rows are read by the page, as lines
+# and as a shipment. Each request is a connection of its own.
 #
 # usage: tests/office.sh     (HALL names another program than the one that `./hall` builds)
 set -eu

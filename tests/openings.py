@@ -1,6 +1,6 @@
 #!/usr/bin/env python3
-"""Tests of `inspector/hall-count`: books and logs whose gaps were worked out by hand, and input that
-is refused. No program is needed.
+"""Tests of `inspector/hall-count`: books and logs whose gaps were worked out by hand, and input
+that is refused. No program is needed.
 
 usage: tests/openings.py
 """

@@ -57,9 +57,9 @@ def wrong_plan(place: Place) -> None:
     began = time.monotonic()
     need(status == 200, f"a desk opens the batch: {status} {said}")
     scales[1].start()
-    wait_for(lambda: scales[1].count_opened() == 30, "lane 2 is back")
+    wait_for(lambda: scales[1].gate.count() == 30, "lane 2 is back")
     note(time.monotonic() - began, "a lane whose batch was opened late was back after")
-    wait_for(lambda: scales[0].count_opened() == 30, "lane 1 weighs on")
+    wait_for(lambda: scales[0].gate.count() == 30, "lane 1 weighs on")
     service.stop()
     need({pack["pile"] for pack in place.packs()} == {"passed"}, "no pack is voided")
 
@@ -96,7 +96,7 @@ def full_disk(place: Place) -> None:
     scales = [PipeScale(place.run, lane, weights(lane, 4000), 0.02) for lane in (1, 2)]
     for scale in scales:
         scale.start()
-    wait_for(lambda: scales[0].count_opened() > 5, "lane 1 weighs")
+    wait_for(lambda: scales[0].gate.count() > 5, "lane 1 weighs")
     filler = f"{place.books}/filler"
     with open(filler, "wb", buffering=0) as rest:
         try:
@@ -108,8 +108,10 @@ def full_disk(place: Place) -> None:
     service.wait_for_error("hall: lane 2, batch A: disk")
     time.sleep(FULL_FOR)
     os.remove(filler)
-    opened, began = sum(len(scale.opened) for scale in scales), time.monotonic()
-    wait_for(lambda: sum(len(scale.opened) for scale in scales) > opened + 20, "lanes are back")
+    opened, began = sum(len(scale.gate.opened) for scale in scales), time.monotonic()
+    wait_for(
+        lambda: sum(len(scale.gate.opened) for scale in scales) > opened + 20, "lanes are back"
+    )
     took = time.monotonic() - began
     note(took, f"after a full disk the lanes were back after (at most {BACK_WITHIN})")
     service.stop()
@@ -117,7 +119,7 @@ def full_disk(place: Place) -> None:
     counted = [pack for pack in packs if pack["signal"] == "pass" and pack["pile"] == "passed"]
     for scale, lane in zip(scales, ("1", "2")):
         own = [int(pack["pack"]) for pack in counted if pack["lane"] == lane]
-        wait_for(lambda: set(scale.opened) >= set(own), "each pack that counts was let out")
+        wait_for(lambda: set(scale.gate.opened) >= set(own), "each pack that counts was let out")
     subprocess.run(["umount", place.books], check=True)
 
 
@@ -163,7 +165,7 @@ def good_end(place: Place) -> None:
     for scale in scales:
         scale.start()
     answered = 0
-    while min(scale.count_opened() for scale in scales) < 20:
+    while min(scale.gate.count() for scale in scales) < 20:
         answered += 1
         act = {"act": "product", "desk": 101, "request": answered, "name": f"Q{answered}",
                "nominal": 250_000}  # fmt: skip
@@ -180,8 +182,8 @@ def good_end(place: Place) -> None:
     need({pack["pile"] for pack in packs} == {"passed"}, "each pack counts")
     for scale, lane in zip(scales, (1, 2)):
         own = [int(pack["pack"]) for pack in packs if pack["lane"] == str(lane)]
-        scale.count_opened()
-        need(scale.opened == own, f"gate {lane} opened for each pack of its lane, in order")
+        scale.gate.count()
+        need(scale.gate.opened == own, f"gate {lane} opened for each pack of its lane, in order")
         need([pack["gross"] for pack in packs if pack["lane"] == str(lane)]
              == [grams(weight) for weight in scale.given[: len(own)]], "in order")  # fmt: skip
     need(place.rows() == 5 + answered + len(packs) + 4, "no row is more or less")

@@ -215,31 +215,20 @@ def grams(milligrams: str) -> str:
     return f"{milligrams[:-3]}.{milligrams[-3:]}"
 
 
-class PipeScale(threading.Thread):
-    """A scale and a gate over the pipes of a lane, which stay open over restarts of the hall."""
+class Gate:
+    """A lane's gate over a pipe, which stays open over restarts of the hall."""
 
-    def __init__(self, folder: str, lane: int, given: list[str], every: float):
-        super().__init__(daemon=True)
-        self.given, self.every = given, every
-        self.cell = os.open(f"{folder}/cell-{lane}.txt", os.O_RDWR)
-        self.gate = os.open(f"{folder}/gate-{lane}.txt", os.O_RDWR | os.O_NONBLOCK)
-        self.is_done = threading.Event()
+    def __init__(self, folder: str, lane: int):
+        self.pipe = os.open(f"{folder}/gate-{lane}.txt", os.O_RDWR | os.O_NONBLOCK)
         self.opened: list[int] = []
         self.held = b""
         self.lock = threading.Lock()
 
-    def run(self) -> None:
-        for weight in self.given:
-            os.write(self.cell, f"{grams(weight)}\n".encode())
-            self.count_opened()
-            time.sleep(self.every)
-        self.is_done.set()
-
-    def count_opened(self) -> int:
+    def count(self) -> int:
         """Takes down what the gate got; how often it opened."""
         with self.lock:
             try:
-                self.held += os.read(self.gate, 65536)
+                self.held += os.read(self.pipe, 65536)
             except BlockingIOError:
                 pass
             *lines, self.held = self.held.split(b"\n")
@@ -247,27 +236,56 @@ class PipeScale(threading.Thread):
             return len(self.opened)
 
 
+class PipeScale(threading.Thread):
+    """A scale and a gate over the pipes of a lane, which stay open over restarts of the hall."""
+
+    def __init__(self, folder: str, lane: int, given: list[str], every: float):
+        super().__init__(daemon=True)
+        self.given, self.every = given, every
+        self.cell = os.open(f"{folder}/cell-{lane}.txt", os.O_RDWR)
+        self.gate = Gate(folder, lane)
+        self.sent: list[str] = []
+        self.enough, self.is_done = threading.Event(), threading.Event()
+
+    def run(self) -> None:
+        for weight in self.given:
+            os.write(self.cell, f"{grams(weight)}\n".encode())
+            self.sent.append(weight)
+            self.gate.count()
+            if self.enough.wait(self.every):
+                break
+        self.is_done.set()
+
+
 class NetworkScale(threading.Thread):
-    """A scale that weighs on, and examples/scale_sender.py, which sends it to a port."""
+    """A scale that weighs on, and examples/scale_sender.py, which sends it to a port; and the gate
+    of its lane."""
 
     def __init__(self, folder: str, lane: int, port: int, given: list[str], every: float,
                  words: Iterable[str] = ()):  # fmt: skip
         super().__init__(daemon=True)
         self.given, self.every = given, every
+        if not os.path.exists(f"{folder}/run/gate-{lane}.txt"):
+            os.mkfifo(f"{folder}/run/gate-{lane}.txt")
+        self.gate = Gate(f"{folder}/run", lane)
         self.paths = [f"{folder}/{what}-{lane}" for what in ("sent", "sender")]
         with open(self.paths[0], "wb") as said, open(self.paths[1], "wb") as errors:
             self.process = subprocess.Popen(
                 [sys.executable, SENDER, str(port), "--seconds=3", *words],
                 stdin=subprocess.PIPE, stdout=said, stderr=errors)  # fmt: skip
         Service.running.append(self.process)
-        self.is_done = threading.Event()
+        self.sent: list[str] = []
+        self.enough, self.is_done = threading.Event(), threading.Event()
 
     def run(self) -> None:
         assert self.process.stdin
         for weight in self.given:
             self.process.stdin.write(f"{grams(weight)}\n".encode())
             self.process.stdin.flush()
-            time.sleep(self.every)
+            self.sent.append(weight)
+            self.gate.count()
+            if self.enough.wait(self.every):
+                break
         self.process.stdin.close()
         self.is_done.set()
 

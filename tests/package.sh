@@ -61,7 +61,7 @@ cp "$package" "$debian/root/"
 cp "$HALL" "$debian/root/program"
 if [ -n "${PROVE:-}" ]; then cp "$PROVE" "$debian/root/prove"; fi
 mkdir "$debian/root/checkout"
-git ls-files -z README.md deploy docs examples tools www |
+git ls-files -z README.md adapters deploy docs examples inspector tools www |
     xargs -0 cp --parents -t "$debian/root/checkout"
 
 # ---- the commands of OPERATING

@@ -3,8 +3,10 @@ tests/operation.py over pipes and over ports."""
 
 # mypy: allow-untyped-calls
 
-import os
+import re
 import time
+from collections.abc import Sequence
+from typing import NamedTuple
 
 from clients import need
 
@@ -13,24 +15,63 @@ from operation_room import (
 )  # fmt: skip
 
 LANES = 2
-# Seconds between two weights of a lane, and how long a hall serves before it is ended.
+# Seconds between two weights of a lane, and how long a hall serves before it is ended: over pipes,
+# and over ports in turn, where a scale takes a while to find the new hall.
 EVERY = 0.05
-SERVED = 0.4
-# How many packs a lane has, at least, for each restart.
-PACKS = 12
+OVER_PIPES, OVER_PORTS = (0.4,), (0.4, 1.0, 2.0)
+# How many packs a lane has for each restart: more than are weighed on a machine however busy, so
+# that the scales weigh until the last restart.
+PACKS = 1000
 
 
-def restart(place: Place, text: str, times: int, **settings: object) -> float:
-    """Ends the hall and begins it again, so often. The longest that an end took."""
-    longest = 0.0
-    for _ in range(times):
+class Restarts(NamedTuple):
+    """How often a hall was begun again; seconds that the longest end took; how many packs were let
+    out meanwhile; and at how many starts a lane let out none."""
+
+    times: int
+    longest: float
+    packs: int
+    idle: int
+
+    def tell(self, way: str, count: int) -> None:
+        print(f"    {self.times} good ends over {way}, {count} packs, none voided, twice or lost,"
+              f" no lane dead; {self.packs} packs meanwhile, at {self.idle} starts a lane had none;"
+              f" the longest end {self.longest:.1f} s", flush=True)  # fmt: skip
+
+
+def restart(
+    place: Place, text: str, times: int, served: Sequence[float], **settings: object
+) -> Restarts:
+    """Ends the hall and begins it again, so often."""
+    ends, opened = [], []
+    for at in range(times):
         service = Service(place, text, LANES=LANES, **settings)
         service.wait_until_served()
-        time.sleep(SERVED)
+        time.sleep(served[at % len(served)])
         status, took = service.stop()
         need(status == 0, f"a good end has status {status}: {service.said()} {service.errors()}")
-        longest = max(longest, took)
-    return longest
+        ends.append(took)
+        opened.append(opened_by(service.said()))
+    packs = sum(sum(lanes) for lanes in opened)
+    return Restarts(times, max(ends), packs, sum(0 in lanes for lanes in opened))
+
+
+def opened_by(said: list[str]) -> list[int]:
+    """How often each lane's gate opened, by what a hall printed at its end."""
+    lanes = [re.fullmatch(r"lane \d+ opened (\d+) done", line) for line in said]
+    found = [int(lane[1]) for lane in lanes if lane]
+    need(len(found) == LANES, f"a hall ended in good order with {said}")
+    return found
+
+
+def finish(scales: Sequence[PipeScale | NetworkScale]) -> list[list[str]]:
+    """Ends the scales, none of which had sent all its weights; what each sent."""
+    for scale in scales:
+        need(not scale.is_done.is_set(), "a scale weighed at each restart")
+        scale.enough.set()
+    for scale in scales:
+        wait_for(scale.is_done.is_set, "a scale has sent its last weight")
+    return [scale.sent for scale in scales]
 
 
 def compare(place: Place, given: list[list[str]]) -> int:
@@ -45,9 +86,10 @@ def compare(place: Place, given: list[list[str]]) -> int:
     return len(packs)
 
 
-def tell(times: int, way: str, count: int, longest: float) -> None:
-    print(f"    {times} good ends over {way}, {count} packs, none voided, twice or lost, no lane"
-          f" dead; the longest end {longest:.1f} s", flush=True)  # fmt: skip
+def compare_gates(place: Place, scales: Sequence[PipeScale | NetworkScale]) -> None:
+    rows = [int(pack["pack"]) for pack in place.packs()]
+    opened = sorted(row for scale in scales for row in scale.gate.opened)
+    need(opened == rows, "each gate opened once for each pack of its lane")
 
 
 def difference(lane: int, stands: list[str], wanted: list[str]) -> str:
@@ -70,17 +112,18 @@ def restarts_over_pipes(place: Place, times: int) -> None:
     for scale in scales:
         scale.start()
     first.stop()
-    longest = restart(place, text, times)
+    seen = restart(place, text, times, OVER_PIPES)
     last = Service(place, text, LANES=LANES)
+    last.wait_until_served()
+    sent = finish(scales)
     for scale in scales:
-        wait_for(scale.is_done.is_set, "a scale has sent all its weights", 3600)
-        wait_for(lambda: scale.count_opened() == len(scale.given), "each pack was let out")
+        wait_for(lambda: scale.gate.count() == len(scale.sent), "each pack was let out")
     status, _ = last.stop()
     need(status == 0, f"the last end has status {status}: {last.errors()}")
-    count = compare(place, given)
-    rows = [int(pack["pack"]) for pack in place.packs()]
-    need(sorted(row for scale in scales for row in scale.opened) == rows, "each gate opened once")
-    tell(times, "pipes", count, longest)
+    count = compare(place, sent)
+    compare_gates(place, scales)
+    need(seen.idle * 10 <= times, f"at {seen.idle} of {times} starts a lane had no pack")
+    seen.tell("pipes", count)
 
 
 def restarts_over_ports(place: Place, times: int) -> None:
@@ -88,32 +131,30 @@ def restarts_over_ports(place: Place, times: int) -> None:
     asks the book."""
     place.script("")
     text = plan_of(["A", "B"])
-    for lane in range(1, LANES + 1):
-        os.mkfifo(f"{place.run}/gate-{lane}.txt")
     remote = place.port + 4
     tunnel = Tunnel(remote + 1)
     given = [weights(lane, times * PACKS) for lane in range(1, LANES + 1)]
     book = ("--book", f"http://127.0.0.1:{place.port}", "--lane", "2")
     scales = [NetworkScale(place.folder, lane, port, given[lane - 1], EVERY, words)
               for lane, port, words in ((1, remote, ()), (2, tunnel.port, book))]  # fmt: skip
-    readers = [os.open(f"{place.run}/gate-{lane}.txt", os.O_RDWR | os.O_NONBLOCK)
-               for lane in range(1, LANES + 1)]  # fmt: skip
     for scale in scales:
         scale.start()
-    longest = restart(place, text, times, REMOTE=remote)
+    seen = restart(place, text, times, OVER_PORTS, REMOTE=remote)
     last = Service(place, text, LANES=LANES, REMOTE=remote)
+    last.wait_until_served()
+    sent = finish(scales)
     for scale in scales:
         status = scale.process.wait(3600)
         need(status == 0, f"a sender ends with {status}: {scale.complaints()}")
+        wait_for(lambda: scale.gate.count() == len(scale.sent), "each pack was let out")
     status, _ = last.stop()
     need(status == 0, f"the last end has status {status}: {last.errors()}")
-    count = compare(place, given)
+    count = compare(place, sent)
+    compare_gates(place, scales)
     for scale in scales:
-        need(scale.acknowledged() == [grams(weight) for weight in scale.given],
+        need(scale.acknowledged() == [grams(weight) for weight in scale.sent],
              "each weight was acknowledged once, in order")  # fmt: skip
-    for reader in readers:
-        os.close(reader)
-    tell(times, "ports", count, longest)
+    seen.tell("ports", count)
 
 
 def lost_acknowledgement(place: Place) -> None:
@@ -121,10 +162,6 @@ def lost_acknowledgement(place: Place) -> None:
     book asked it stands once; without it stands twice, and is reported."""
     place.script("")
     text = plan_of(["A", "B"])
-    for lane in range(1, LANES + 1):
-        os.mkfifo(f"{place.run}/gate-{lane}.txt")
-    readers = [os.open(f"{place.run}/gate-{lane}.txt", os.O_RDWR | os.O_NONBLOCK)
-               for lane in range(1, LANES + 1)]  # fmt: skip
     remote = place.port + 4
     tunnels = [Tunnel(remote), Tunnel(remote + 1)]
     book = f"http://127.0.0.1:{place.port}"
@@ -155,8 +192,6 @@ def lost_acknowledgement(place: Place) -> None:
     twice = [given[0][:4] + given[0][3:], given[1]]
     compare(place, twice)
     need([scale.complaints().count("\n") for scale in scales] == [1, 0], "the doubt is reported")
-    for reader in readers:
-        os.close(reader)
 
 
 def send(scale: NetworkScale, begin: int, end: int) -> None:

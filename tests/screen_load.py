@@ -1,5 +1,5 @@
-"""What the pages cost: the board with 16 lanes at 20 packs a second each, an accelerated hour of it,
-and a batch of 10 000 packs. A part of tests/screen.py."""
+"""What the pages cost: the board with 16 lanes at 20 packs a second each, an accelerated hour of
+it, and a batch of 10 000 packs. A part of tests/screen.py."""
 
 import os
 import time

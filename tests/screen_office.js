@@ -1,7 +1,7 @@
 // An office that is reckoned in the page itself, so that a board's hour is over in a minute and a
 // batch of ten thousand packs is read at once: what is measured then is the page alone.
-// tests/screen_load.py has the browser run it before each page. Packs are functions of their number;
-// `hallClock` moves the time, and with it the rows of the book.
+// tests/screen_load.py has the browser run it before each page. Packs are functions of their
+// number; `hallClock` moves the time, and with it the rows of the book.
 
 window.hallClock = (() => {
   const LANES = 16;

@@ -1,5 +1,5 @@
-"""Halls for the screen: a book that is filled by a script, the front, browsers. Used by the parts of
-tests/screen.py, inside the room that tests/screen.sh makes."""
+"""Halls for the screen: a book that is filled by a script, the front, browsers. Used by the parts
+of tests/screen.py, inside the room that tests/screen.sh makes."""
 
 import os
 import random

@@ -1,5 +1,5 @@
-"""Bytes that each page loads, what the key Tab comes by, and that nothing on a page moves while packs
-come. A part of tests/screen.py."""
+"""Bytes that each page loads, what the key Tab comes by, and that nothing on a page moves while
+packs come. A part of tests/screen.py."""
 
 import time
 

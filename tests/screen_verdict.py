@@ -1,5 +1,5 @@
-"""The day of tests/screen_day.py from weighing to a verdict: a held batch, a void, a sample that two
-desks measure together, the verdict, the charts and the sheet, and what the book then says."""
+"""The day of tests/screen_day.py from weighing to a verdict: a held batch, a void, a sample that
+two desks measure together, the verdict, the charts and the sheet, and what the book then says."""
 
 import json
 import os
@@ -267,7 +267,8 @@ def compare_book(day, browsers):
                 told += 1
     for number, (request, members) in day.curl.told.items():
         row = rows[number]
-        need((row.desk, row.request) == (day.curl.DESK, request) and members.items() <= row.act.items(),
+        need((row.desk, row.request) == (day.curl.DESK, request)
+             and members.items() <= row.act.items(),
              f"{row} for {members}")
     for desk in (101, 102, day.curl.DESK):
         numbers = [row.request for row in rows.values() if row.desk == desk]

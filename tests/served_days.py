@@ -21,6 +21,12 @@ WITHOUT_DESK = "hall: line 1 of the setup has no desk, and acts at each start (@
 ENDED = re.compile(
     r"cell-\d\.txt( has ended|: bad line \d, in vain: a character that no weight has)\n")
 
+# What it says as the jobs begin, and as a lane or the door ends: the reason is left out where there
+# is no memory for it.
+BEGUN = re.compile(
+    r"hall: (serving, lanes \d, doors 1 at port \d+, rows \d+, left \d+"
+    r"|lane \d, batch A: (done|memory|bad \d|)|door 1: (done|memory|))\n")
+
 DONE = "done (status 0)"
 LATE = "a job began behind another, and they waited in vain (status 10)"
 
@@ -167,7 +173,8 @@ class ServedDay:
         """Whether standard error says only what it may of this day, each at most once."""
         said = place.errors.replace(f"hall: {place.folder}/", "").splitlines(keepends=True)
         return len(said) == len(set(said)) and all(
-            line == WITHOUT_DESK or ENDED.fullmatch(line) for line in said)
+            line == WITHOUT_DESK or ENDED.fullmatch(line) or BEGUN.fullmatch(line)
+            for line in said)
 
     def unbegun(self, place, status, said):
         """How a hall ended of whose jobs none ran; none of others."""

@@ -1,8 +1,9 @@
 #!/bin/sh
 # Two hosts in network namespaces of the test's own, joined by a cable: a hall at the first, with
 # two lanes and two desks at work, whose book examples/standby.sh ships to the second by a door of
-# its own, five times a second. At a drawn moment the cable is cut and all that ran at the first host is killed. Then
-# a hall is served at the second host from the copy, and the desks ask again under the same numbers.
+# its own, five times a second. At a drawn moment the cable is cut and all that ran at the first
+# host is killed. Then a hall is served at the second host from the copy, and the desks ask again
+# under the same numbers.
 #
 # Compared: the copy is the beginning of the first's book, row by row; the hall that takes over
 # leaves its rows as they are; the last request of each desk that the copy has is told its row
