@@ -8,7 +8,7 @@ use std::sync::atomic::{AtomicU64, Ordering};
 use std::thread;
 
 /// How often a device looks for the others.
-const LOOKS: u32 = 100_000_000;
+pub const LOOKS: u32 = 100_000_000;
 
 const NOTHING: &[u8] = b"";
 
