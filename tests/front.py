@@ -153,6 +153,19 @@ REASONS = [
 ]
 
 
+def read_log():
+    """The front's lines of acts, as far as they are whole."""
+    with open("/var/log/nginx/hall-acts.log", encoding="utf-8") as log:
+        text = log.read()
+    return text[: text.rfind("\n") + 1]
+
+
+def behind_reasons(text):
+    """The status of each line behind the last one with a reason."""
+    behind = text.rpartition('\\"reason\\"')[2].splitlines()[1:]
+    return [json.loads(line)["status"] for line in behind]
+
+
 def check_reasons(front):
     """Each text that a person may type goes through, and stands in the line of the act with its
     person and row; a refused act has a line too. No line has a password."""
@@ -170,8 +183,9 @@ def check_reasons(front):
         acts.append((str(row), reason))
     expect(anna.act(101, act="product", name="r0", nominal=100000), 409, "a product that is there")
     expect(Person(front, "anne").act(101, act="end", batch="A"), 401, "nobody acts")
-    with open("/var/log/nginx/hall-acts.log", encoding="utf-8") as log:
-        text = log.read()
+    # a line is written behind its answer
+    wait_until(lambda: {"409", "401"} <= set(behind_reasons(read_log())), read_log)
+    text = read_log()
     lines = [json.loads(line) for line in text.splitlines()]
     need(not any(word in text for word in front.passwords.values()), "a password is in the log")
     told = [(line["row"], json.loads(line["body"])["reason"]) for line in lines
@@ -180,9 +194,6 @@ def check_reasons(front):
     need(all(line["person"] == "anna" and line["book"] == BOOK and float(line["time"]) > 0
              and float(line["took"]) >= 0 for line in lines if '"reason"' in line["body"]),
          "person, book and times")
-    last = max(place for place, line in enumerate(lines) if '"reason"' in line["body"])
-    after = [line["status"] for line in lines[last + 1 :]]
-    need("409" in after and "401" in after, f"behind the reasons are {after}")
 
 
 def check_desks(front):
