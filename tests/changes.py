@@ -32,6 +32,8 @@ ENDED = 20
 # What a change is, by weight: another batch, the same again, one that is unknown or was ended, two
 # at once, and lines of a scanner that are none.
 KINDS = {"good": 60, "again": 6, "unknown": 8, "ended": 8, "both": 10, "cut": 4, "nonsense": 4}
+# How long nothing is written before all is in the book, and how long that is waited for, in seconds.
+STILL, PATIENCE = 2.0, 300.0
 # What is promised: seconds from a change to the first pack behind it, and how far the other lanes'
 # rate may go from that before it.
 MOST_CHANGE, MOST_SLOWER = 0.05, 0.05
@@ -130,6 +132,17 @@ class Day:
         time.sleep(AWAY)
         self.hall = self.begin()
 
+    def wait_until_still(self) -> None:
+        """Waits until what was said is in the book."""
+        until = time.monotonic() + PATIENCE
+        before = -1
+        while (now := os.stat(self.book).st_mtime_ns) != before:
+            need(
+                time.monotonic() < until, f"the hall isn't done {PATIENCE} s behind the last weight"
+            )
+            before = now
+            time.sleep(STILL)
+
     def run(self) -> None:
         """All of it, to a good end."""
         for lane in self.lanes:
@@ -148,7 +161,7 @@ class Day:
         time.sleep(2)
         self.ending.set()
         scales.join()
-        time.sleep(2)
+        self.wait_until_still()
         with open(f"{self.folder}/stop", "wb"):
             pass
         self.hall.wait(60)

@@ -69,11 +69,13 @@ class Device:
 class ChangingLane:
     """A lane: its adapter runs until `end`."""
 
-    def __init__(self, folder: str, number: int, devices: int, remote: int | None):
+    def __init__(
+        self, folder: str, number: int, devices: int, remote: int | None = None, shown: str = ""
+    ):
         self.folder, self.number = folder, number
         self.kept = f"{folder}/kept-{number}"
         self.record = f"{folder}/record-{number}"
-        self.socket = f"{folder}/lane-{number}.socket"
+        self.socket = f"{shown or folder}/lane-{number}.socket"
         self.settings = f"{folder}/lane-{number}.toml"
         scale, scanner = ports_of(devices, number)
         self.scale, self.scanner = Device(scale), Device(scanner)
