@@ -143,6 +143,12 @@ class ChangingLane:
             raise ValueError(f"a page is answered {answer!r}")
         self.batches.append(Said(batch, began, time.time()))
 
+    def kill(self) -> None:
+        """Kills the adapter; its devices connect to the next one."""
+        self.process.kill()
+        self.process.wait()
+        self.scale.link = self.scanner.link = None
+
     def end(self) -> int:
         """Ends the adapter; its status."""
         self.process.terminate()

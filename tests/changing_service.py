@@ -130,8 +130,7 @@ def check_refused(place: Place, one: Weighed) -> None:
 
 def check_adapter(service: Service, one: Weighed) -> None:
     """An adapter that is killed leaves the lane waiting; the next one says the batch again."""
-    one.lane.process.kill()
-    one.lane.process.wait()
+    one.lane.kill()
     time.sleep(1)
     need("changing: " not in service.errors(), f"the lane ended: {service.errors()}")
     one.lane.process = one.lane.begin()
