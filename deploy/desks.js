@@ -1,5 +1,6 @@
 // What the front hands on to the office: a question of its form, and an act of a desk that is among
-// those of the person who asks. Run by nginx (njs 0.7).
+// those of the person who asks; and to the adapter of a lane another batch, by who has that lane.
+// Run by nginx (njs 0.7).
 //
 // `/rows/NUMBER` isn't among the questions: shipments are asked at the standby's own door, so that
 // nobody at the front fills that door or a desk's with the bytes of the whole book.
@@ -9,6 +10,7 @@ import fs from 'fs';
 const QUESTION = new RegExp('^/hall/(summary|acts/[0-9]{1,20}|lanes/[0-9]{1,3}' +
     '|packs/[0-9]{1,20}|batches/[A-Za-z0-9._-]{1,32}(/sample|/packs/[0-9]{1,20})?)$');
 const ACTS = '/hall/acts';
+const CHANGE = new RegExp('^/lane/([1-9]|1[0-6])/batch$');
 
 // The body of an act, as far as the front reads it: one flat object. Its texts may have the escapes
 // of JSON, as a reason that somebody typed; names of members have none. Anything that the office
@@ -19,11 +21,14 @@ const TEXT = '"[^"\\\\]*(?:' + ESCAPE + '[^"\\\\]*)*"';
 const MEMBER = '"[a-z]+"' + BLANK + ':' + BLANK + '(?:' + TEXT + '|[0-9]+)';
 const BODY = new RegExp('^' + BLANK + '\\{' + BLANK + MEMBER +
     '(?:' + BLANK + ',' + BLANK + MEMBER + ')*' + BLANK + '\\}' + BLANK + '$');
+const CHANGED = new RegExp('^' + BLANK + '\\{' + BLANK + '"batch"' + BLANK + ':' + BLANK +
+    '"([A-Za-z0-9][A-Za-z0-9._-]{0,31})"' + BLANK + '\\}' + BLANK + '$');
 // The texts of members, which are taken out before a desk is looked for, since one may speak of it.
 const SAID = new RegExp(':' + BLANK + TEXT, 'g');
 const DESK = new RegExp('"desk"' + BLANK + ':' + BLANK + '([0-9]{1,5})[^0-9]', 'g');
 
-// A name as hall-person lets people in, and the line of one who acts, as: anna "101 102";
+// A name as hall-person lets people in, and the line of one who acts, as: anna "101 102 1"; where
+// numbers up to 16 are lanes.
 // Passwords of other names, which differ in capitals alone from one of these, are none to act by.
 const NAME = new RegExp('^[a-z0-9][a-z0-9._-]*$');
 const LINE = new RegExp('^([a-z0-9._-]+) "([0-9 ]*)";$');
@@ -40,7 +45,9 @@ function deskOf(body) {
     return found && found.length === 1 ? found[0].replace(/[^0-9]/g, '') : null;
 }
 
-// The desks of a person, read anew for each act, so that a changed line counts at once.
+const MOST_LANES = 16;
+
+// The desks and lanes of a person, read anew for each act, so that a changed line counts at once.
 function desksOf(r) {
     const name = r.variables.remote_user || '';
     const text = NAME.test(name) ? fs.readFileSync(`${r.variables.front}/desks`, 'utf8') : '';
@@ -52,21 +59,26 @@ function desksOf(r) {
 // Whether a person has a desk, or may only look: for what writes into the archive.
 function hasDesk(r) {
     try {
-        return desksOf(r).some((desk) => desk !== '') ? 'yes' : 'no';
+        return desksOf(r).some((desk) => Number(desk) > MOST_LANES) ? 'yes' : 'no';
     } catch (fault) {
         r.error(`the desks can't be read: ${fault.message}`);
         return 'no';
     }
 }
 
-function isTheirs(r) {
-    const desk = deskOf(r.requestText || '');
+// Whether a number is among those of the person who asks.
+function isAmongTheirs(r, number) {
     try {
-        return desk !== null && desksOf(r).indexOf(desk) >= 0;
+        return desksOf(r).indexOf(number) >= 0;
     } catch (fault) {
         r.error(`the desks can't be read: ${fault.message}`);
         return false;
     }
+}
+
+function isTheirs(r) {
+    const desk = deskOf(r.requestText || '');
+    return desk !== null && Number(desk) > MOST_LANES && isAmongTheirs(r, desk);
 }
 
 function pause(time) {
@@ -102,4 +114,19 @@ async function pass(r) {
     r.return(reply.status, reply.responseText);
 }
 
-export default { pass, hasDesk };
+// Says another batch to the adapter of a lane, which keeps it and hands it on to the hall.
+async function change(r) {
+    const found = r.uri.match(CHANGE);
+    if (!found) return r.return(404);
+    if (r.method !== 'POST') return r.return(405);
+    if (!isAmongTheirs(r, found[1])) return r.return(403);
+    const named = (r.requestText || '').match(CHANGED);
+    if (!named) return r.return(400);
+    const body = JSON.stringify({ batch: named[1] });
+    const reply = await r.subrequest(`/adapter/${found[1]}`, { method: 'POST', body });
+    r.headersOut['Cache-Control'] = 'no-store';
+    r.headersOut['Content-Type'] = 'application/json';
+    r.return(reply.status, reply.status === 200 ? reply.responseText : '');
+}
+
+export default { pass, change, hasDesk };

@@ -4,10 +4,11 @@
 usage: scale_sender.py PORT [--host H] [--first N] [--seconds S]
                             [--book URL --lane L [--login FILE]] < WEIGHTS
 
-WEIGHTS has a weight in grams a line: 1 to 8 digits, and at most three after a point. What is no
-weight, a line of more than 64 bytes and a weight over 30 kg are left out and reported on standard
-error, since they would end the lane. The line after the last weight says `end`. Each line that was
-acknowledged goes to standard output, with its number.
+WEIGHTS has a weight in grams a line: 1 to 8 digits, and at most three after a point; or, for a lane
+that changes its batch, `batch NAME`. What is neither, a line of more than 64 bytes and a weight
+over 30 kg are left out and reported on standard error, since they would end the lane. The line
+after the last weight says `end`. Each line that was acknowledged goes to standard output, with its
+number.
 
 Weights are numbered from 1 (`1 251.000`), by each hall anew. A line is said, and said again over a
 new connection where no acknowledgement comes within S seconds (5), or the connection ends. The
@@ -18,6 +19,11 @@ one that goes on says again how many it has taken. So this goes on over any rest
 behind a tunnel too. Where one line was acknowledged so far, 5 seconds of silence tell the two
 apart, or a port that refused a connection meanwhile; a tunnel whose own port may do that is used
 with --book.
+
+Once a batch was said, each new connection begins with that line under the number 1, whether weights
+come or not: a new hall takes it, so that no weight is booked under another batch, and one that goes
+on says how many lines it has taken. Where a batch is under way it may be taken twice: its lane then
+stops and starts once more.
 
 At the hall's own port no weight is taken twice by halls that end in good order. Behind a tunnel the
 lines alone can't tell one case: a hall took a weight, it ended, and its acknowledgement was lost or
@@ -46,6 +52,7 @@ import urllib.parse
 from collections.abc import Iterator
 
 WEIGHT = re.compile(rb"([0-9]{1,8})(?:\.([0-9]{1,3}))?")
+BATCH = re.compile(rb"batch [^ \t\r\n]{1,32}")
 ACKNOWLEDGED = re.compile(rb"ack ([0-9]+)")
 # The longest line of a scale, without its end, and more bytes than an acknowledgement has.
 MAX_LINE = 64
@@ -92,6 +99,11 @@ class Answer(enum.Enum):
 
 def report(said: str) -> None:
     print(f"scale_sender: {said}", file=sys.stderr, flush=True)
+
+
+def is_batch(line: bytes) -> bool:
+    """Whether a line says a batch."""
+    return BATCH.fullmatch(line) is not None
 
 
 def milligrams(weight: bytes) -> int | None:
@@ -167,6 +179,17 @@ class Numbers:
             self.tries = []
         return False
 
+    def find(self, number: int) -> bool:
+        """Takes the answer to a batch with the number 1, by which a connection begins: how many
+        lines the hall has taken. Says whether the line is acknowledged by it."""
+        if number > max(self.said | {self.acknowledged, 1}):
+            raise Ahead(number)
+        is_said = number in self.said
+        if is_said:
+            self.said = set()
+        self.acknowledged, self.tries, self.in_step = number, [], True
+        return is_said
+
     def hear_left(self, number: int) -> bool:
         """Takes an acknowledgement that came on a connection that was left. Says whether the line
         is acknowledged by it."""
@@ -184,6 +207,10 @@ class Numbers:
         self.acknowledged = acknowledged
         self.tries = []
         self.said = set()
+
+    def is_hall_unknown(self) -> bool:
+        """Whether lines were said, and the hall of this connection may be another one."""
+        return not self.in_step and self.acknowledged > 0
 
     def is_silence_told(self) -> bool:
         """Whether silence says something: that the hall has taken fewer lines."""
@@ -286,10 +313,10 @@ class Book:
             time.sleep(RETRY)
             self.mark()
 
-    def note(self) -> None:
-        """A weight was acknowledged."""
+    def note(self, is_change: bool) -> None:
+        """A weight was acknowledged; or a batch, before which weights may have had none."""
         self.since += 1
-        if self.rows is None or self.since >= MARK_EVERY:
+        if self.rows is None or self.since >= MARK_EVERY or is_change:
             self.mark()
 
     def newest(self) -> Newest:
@@ -373,6 +400,8 @@ class Sender:
         self.seconds = seconds
         self.book = book
         self.link: Link | None = None
+        # the batch that was said last
+        self.batch: bytes | None = None
         # the connections that were left while a line wasn't acknowledged, the oldest first
         self.left: list[Link] = []
 
@@ -444,6 +473,20 @@ class Sender:
             if self.numbers.in_step and not was_in_step:
                 return Answer.OTHER_NUMBER
 
+    def finds_hall(self, link: Link) -> Answer:
+        """Says the batch as the first line of a connection, and so finds how many lines its hall
+        has taken. What comes of the present line, if any."""
+        until = time.monotonic() + self.seconds
+        link.say(b"1 %s\n" % self.batch)
+        while (left := until - time.monotonic()) > 0:
+            ready = select.select([link, *self.left], [], [], left)[0]
+            if self.hears_left():
+                return Answer.DONE
+            numbers = link.hear() if link in ready else []
+            if numbers:
+                return Answer.DONE if self.numbers.find(numbers[-1]) else Answer.OTHER_NUMBER
+        return Answer.SILENCE
+
     def ask(self, link: Link, what: bytes) -> Answer:
         """Says a line under the present number, a few times where silence has a meaning."""
         times = TIMES if self.numbers.is_silence_told() else 1
@@ -458,6 +501,10 @@ class Sender:
     def is_said(self, link: Link, what: bytes, began: float) -> bool:
         """Says a line under each number that is to be tried here. Whether it is acknowledged, or in
         the book, which is asked again before another number is tried."""
+        if self.batch is not None and self.numbers.is_hall_unknown():
+            found = self.finds_hall(link)
+            if found is not Answer.OTHER_NUMBER:
+                return found is Answer.DONE
         while (answer := self.ask(link, what)) is not Answer.DONE:
             if answer is Answer.SILENCE:
                 if not self.numbers.is_next_tried():
@@ -470,6 +517,8 @@ class Sender:
         """Says a line until it is acknowledged, and gives its number."""
         before, connections = self.numbers.acknowledged, 0
         began = time.monotonic()
+        if is_batch(what):
+            self.batch = what
         while True:
             try:
                 link = self.connect(wait)
@@ -487,7 +536,8 @@ class Sender:
         self.forget_left()
         number = self.numbers.acknowledged
         is_new = self.numbers.in_step and (before == 0 or number != before + 1)
-        if connections > 1 and is_new and self.book is None and what != b"end":
+        is_weight = what != b"end" and not is_batch(what)
+        if connections > 1 and is_new and self.book is None and is_weight:
             report(
                 f"{what.decode()} was said before to a hall that ended without acknowledging it:"
                 " see that the book hasn't it twice"
@@ -497,7 +547,7 @@ class Sender:
     def is_in_book(self, what: bytes, began: float) -> bool:
         """Whether the book has a weight that was said before and isn't acknowledged. Where no hall
         is there to say so, one is waited for: an OSError."""
-        if self.book is None or what == b"end":
+        if self.book is None or what == b"end" or is_batch(what):
             return False
         is_late = ASK_WAIT < time.monotonic() - began
         try:
@@ -517,11 +567,25 @@ class Sender:
             self.numbers.skip_line()
         return newest is Newest.SETTLED
 
+    def greet(self) -> None:
+        """Looks for a new hall, which hears the batch though no weight comes."""
+        try:
+            self.link = Link(self.address, self.seconds)
+            self.numbers.connect(False)
+            if self.finds_hall(self.link) is Answer.SILENCE:
+                self.leave()
+        except OSError:
+            self.leave()
+        self.forget_left()
+
     def idle(self) -> bytes:
         """Waits for the scale's next bytes, and leaves a connection that ends meanwhile."""
         while True:
             links = [] if self.link is None else [self.link]
-            ready, _, _ = select.select([0, *links], [], [])
+            is_alone = self.link is None and self.batch is not None
+            ready, _, _ = select.select([0, *links], [], [], RETRY if is_alone else None)
+            if is_alone and not ready:
+                self.greet()
             try:
                 if self.link in ready and self.link is not None:
                     self.link.hear()
@@ -553,10 +617,12 @@ def read_lines(sender: Sender) -> Iterator[bytes]:
 
 
 def weights(sender: Sender) -> Iterator[bytes]:
-    """The weights of standard input; what is none is reported."""
+    """The weights and batches of standard input; what is neither is reported."""
     for line in read_lines(sender):
         gross = milligrams(line)
-        if gross is None:
+        if is_batch(line):
+            yield line
+        elif gross is None:
             report(f"no weight: {line[:MAX_LINE]!r}")
         elif MOST_GROSS < gross:
             report(f"over 30 kg: {line.decode()}")
@@ -569,10 +635,10 @@ def say_all(sender: Sender) -> int:
     try:
         if sender.book is not None:
             sender.book.begin()
-        for weight in weights(sender):
-            print(sender.say(weight), weight.decode(), flush=True)
+        for line in weights(sender):
+            print(sender.say(line), line.decode("latin-1"), flush=True)
             if sender.book is not None:
-                sender.book.note()
+                sender.book.note(is_batch(line))
         print(sender.say(b"end", LAST_WAIT), "end", flush=True)
     except Gone:
         report("the hall is gone, and the end isn't acknowledged")

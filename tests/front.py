@@ -12,11 +12,13 @@ from front_clients import Person, Reply, connect, expect
 from front_people import check_at_once, check_capitals, check_names, check_sites
 from front_room import (BOOK, FIRST_PORT, NAME, SHOWN, Front, add_hall_user, make_hall, mount_room,
                         run, run_as_hall, wait_until)
+from front_changes import check_changes
 from front_walls import check_two_halls, check_transport, check_walls
 from rows import rows_behind
 
 SETUP = "day 2025-03-03\nproduct rice250 250\ntare rice250 2025-03-03 10\nopen A rice250\n"
-PEOPLE = {"anna": [101, 102], "ben": [103], "wall": []}
+# A number up to 16 is a lane.
+PEOPLE = {"anna": [101, 102, 1], "ben": [103, 2], "wall": []}
 # Seconds within which the others are mostly answered, whatever the rest does, and always, on a busy
 # machine too: a door that a slow request held would be held until the front leaves it, for 10 s.
 PROMPT, HELD = 2.0, 8.0
@@ -362,7 +364,8 @@ def main():
     check_sites()
     front.start()
     for check in (check_passwords, check_transport, check_capitals, check_origins, check_paths,
-                  check_desks, check_bodies, check_slow, check_many, check_reasons):
+                  check_desks, check_changes, check_bodies, check_slow, check_many,
+                  check_reasons):
         check(front)
         print(f"front: {check.__name__} holds", flush=True)
     check_pages(front, program, book)

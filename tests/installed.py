@@ -18,9 +18,10 @@ ADDRESSES = ("hall.example", "old.hall.example", "juice.hall.example")
 # What an installed hall has, as a page names it or a person looks for it.
 PLACES = """
     /usr/bin/hall /usr/sbin/hall-person /usr/sbin/hall-site /usr/sbin/hall-backup
-    /usr/sbin/hall-status /usr/lib/hall/start /usr/lib/hall/watch /usr/lib/hall/stop
+    /usr/sbin/hall-status /usr/lib/hall/start /usr/lib/hall/planned /usr/lib/hall/watch
+    /usr/lib/hall/stop
     /usr/lib/hall/list /usr/lib/hall/in_force.py /lib/systemd/system/hall@.service
-    /lib/systemd/system/hall-list@.service
+    /lib/systemd/system/hall-list@.service /lib/systemd/system/hall-lane@.service
     /lib/systemd/system/hall-backup@.timer /usr/share/hall/nginx.conf /usr/share/hall/site.conf
     /usr/share/hall/desks.js /usr/share/hall/pages.js /usr/share/hall/hall.env
     /usr/share/hall/www/index.html

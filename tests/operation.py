@@ -14,6 +14,7 @@ import sys
 import time
 from collections.abc import Callable
 
+from changing_service import changing_lanes
 from clients import free_ports, need
 from filled_book import write_book
 
@@ -266,6 +267,7 @@ CASES: dict[str, Callable[[Place], None]] = {
     "wrong_plan": wrong_plan, "full_book": full_book, "full_disk": full_disk,
     "ports_taken": ports_taken, "unread_gate": unread_gate, "good_end": good_end,
     "backups": backups, "lost_acknowledgement": lost_acknowledgement,
+    "changing_lanes": changing_lanes,
 }  # fmt: skip
 
 

@@ -2,10 +2,11 @@
 # A hall in operation, by deploy/start and deploy/stop as its service runs it: a plan of another
 # number of lanes, and one that names a batch that isn't open yet; a book that becomes full; a disk
 # that is full, and room made; ports that others have; a gate that nobody reads; an evening under
-# load; copies of the book, without room, of no book and of a changed one. Then the hall is ended in
-# good order and begun again 200 times while two scales weigh over pipes, and 200 times while they
-# weigh over ports, one of them behind a tunnel: no pack is voided, stands twice or is lost, and no
-# lane stays dead. And what is said on standard error, in lanes.txt and by hall-status meanwhile.
+# load; copies of the book, without room, of no book and of a changed one; lanes that change their
+# batch, an adapter and a hall of theirs killed. Then the hall is ended in good order and begun
+# again 200 times while two scales weigh over pipes, and 200 times while they weigh over ports, one
+# of them behind a tunnel: no pack is voided, stands twice or is lost, and no lane stays dead. And
+# what is said on standard error, in lanes.txt and by hall-status meanwhile.
 #
 # usage: tests/operation.sh [RESTARTS [CASE..]]     as: tests/operation.sh 20 good_end backups
 #        HALL names another program than the one that `./hall` builds

@@ -6,6 +6,7 @@ usage: screen.py PART PROGRAM ROOM PICTURES      in a room of its own (front_roo
 import sys
 
 from front_room import mount_room
+from screen_changes import run_changes
 from screen_day import run_day
 from screen_load import run_load
 from screen_pages import run_boards, run_pages
@@ -19,6 +20,7 @@ PARTS = {
     "boards": run_boards,
     "sizes": run_sizes,
     "load": run_load,
+    "changes": run_changes,
 }
 
 

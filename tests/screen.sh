@@ -10,6 +10,7 @@
 #   boards  the same for boards of 1 and 16 lanes, all names of 32 letters
 #   sizes   bytes that each page loads, what the key Tab comes by, no layout shift as packs come
 #   load    the board with 16 lanes at 20 packs a second each, an hour of it, 10 000 packs drawn
+#   changes a lane changes its batch by the page, the desk and a typed scan, and is refused one
 #
 # usage: tests/screen.sh [PICTURES [PART..]]    HALL names the program; screenshots are left in
 #                                               PICTURES; without a PART all are done
@@ -33,7 +34,7 @@ fi
 mkdir -p "$pictures"
 pictures=$(realpath "$pictures")
 chmod 755 "$room"
-[ $# -gt 0 ] || set -- day signs pages boards sizes load
+[ $# -gt 0 ] || set -- day signs pages boards sizes load changes
 for part; do
     mkdir "$room/$part"
     # the Python for which Debian's selenium is

@@ -9,7 +9,8 @@ the book asked; and where none is cut, the hall slower than the sender waits, wi
 weight stands twice, none is left out, and none is acknowledged that isn't there. Then the whole
 sender, as a process: lines that are too long and weights that are too great; a weight whose
 acknowledgement is lost at a good end, with the book asked and without; halls that are slower than
-the sender waits, and end. Done in 3 minutes, at most 10; status 1 at any difference.
+the sender waits, and end; a lane that changes its batch, beside halls that end and connections that
+are cut. Done in 3 minutes, at most 10; status 1 at any difference.
 """
 
 import copy
@@ -41,6 +42,8 @@ WEIGHTS, DEPTH, HALLS = 4, 28, 2
 # before they see that they are to end, in seconds.
 ENDS = 20
 LOOK = 0.02
+# How many batches are said to each of the halls of a lane that changes its batch.
+CHANGES = 10
 
 
 def fail(said: str) -> NoReturn:
@@ -301,7 +304,13 @@ class Hall:
 
     def __init__(self) -> None:
         self.rows: list[str] = []
+        # the batch of each row, and how often a batch was taken
+        self.batches: list[str] = []
+        self.changes = 0
         self.is_deaf = False
+        # how many of a hundred answers are cut with their connection, and whether one is owed
+        self.cuts = 0
+        self.is_owing = False
         # how long the hall may take over a weight, in seconds, as drawn
         self.delays = [0.0]
         self.draw = random.Random(64)
@@ -313,6 +322,7 @@ class Hall:
     def begin(self) -> None:
         """Takes connections, having taken nothing."""
         self.taken = 0
+        self.batch = ""
         self.is_ending = False
         self.listener = socket.create_server(("127.0.0.1", self.port))
         self.port = self.listener.getsockname()[1]
@@ -343,16 +353,28 @@ class Hall:
                 if not came or not all(self.take(link, line.decode().split()) for line in lines):
                     return
 
+    def keep(self, words: list[str]) -> None:
+        """Takes the next line: a weight is a row of the present batch."""
+        if words[0] == "batch":
+            self.batch = words[1]
+            self.changes += 1
+        elif words[0] != "end":
+            self.rows.append(words[0])
+            self.batches.append(self.batch)
+            self.is_ending = self.is_ending or self.is_deaf
+            time.sleep(self.draw.choice(self.delays))
+
     def take(self, link: socket.socket, words: list[str]) -> bool:
         """Takes a line. Where it is deaf it ends well after it, and its answer is lost."""
-        number, what = int(words[0]), words[1]
+        number = int(words[0])
         if number == self.taken + 1:
             self.taken = number
-            if what != "end":
-                self.rows.append(what)
-                self.is_ending = self.is_ending or self.is_deaf
-                time.sleep(self.draw.choice(self.delays))
+            self.keep(words[1:])
+            self.is_owing = self.draw.randrange(100) < self.cuts
+            if self.is_owing:
+                return False
         if number <= self.taken and not self.is_deaf:
+            self.is_owing = False
             try:
                 link.sendall(b"ack %d\n" % self.taken)
             except OSError:
@@ -451,18 +473,60 @@ def check_slow(words: list[str], through: Callable[[int], int]) -> None:
         fail(f"{words}: {len(hall.rows)} of {len(given)} weights, other ones from {odd[:1]} on")
 
 
+def check_batches(through: Callable[[int], int], cuts: int) -> None:
+    """A lane that changes its batch, whose halls end in good order, one after the other, while
+    connections are cut: each weight stands once, in order, under the batch that was said last."""
+    hall = Hall()
+    hall.cuts = cuts
+    hall.delays = [0.0, 0.005]
+    given: list[tuple[str, str]] = []
+    sender = run_sender(through(hall.port), [])
+    assert sender.stdin
+    for at in range(ENDS * CHANGES):
+        sender.stdin.write(f"batch B{at}\n")
+        lines = [f"{262_000 + at * 10 + one}" for one in range(hall.draw.randrange(8))]
+        given += [(f"B{at}", f"{weight[:3]}.{weight[3:]}") for weight in lines]
+        sender.stdin.write("".join(f"{weight[:3]}.{weight[3:]}\n" for weight in lines))
+        if at % CHANGES == CHANGES - 1:
+            wait_until_settled(hall)
+            hall.begin()
+    _, said = sender.communicate(timeout=900)
+    found = list(zip(hall.batches, hall.rows))
+    if sender.returncode != 0 or found != given:
+        odd = [pair for pair in zip(found, given) if pair[0] != pair[1]]
+        fail(f"batches: status {sender.returncode}, {len(found)} of {len(given)}: {odd[:3]} {said}")
+    if hall.changes < ENDS * CHANGES:
+        fail(f"batches: {hall.changes} were taken of {ENDS * CHANGES}")
+
+
+def wait_until_settled(hall: Hall) -> None:
+    """Ends a hall that owes no answer, at a drawn moment."""
+    time.sleep(hall.draw.uniform(0, 0.5))
+    while True:
+        while hall.is_owing:
+            time.sleep(0.01)
+        cuts, hall.cuts = hall.cuts, 0
+        time.sleep(3 * LOOK)
+        if not hall.is_owing:
+            hall.end()
+            hall.cuts = cuts
+            return
+        hall.cuts = cuts
+
+
 def check_bad_lines() -> None:
     """20 MB without a line's end, lines too long, weights over 30 kg, and one that is just that."""
     hall = Hall()
     sender = run_sender(hall.port, [])
     began = time.monotonic()
-    given = ["0" * 20_000_000, "262.000", "1" * 65, "30000.001", "30000", "262,0", "30000.000\r"]
+    given = ["0" * 20_000_000, "262.000", "1" * 65, "30000.001", "30000", "262,0", "batch A B",
+             "30000.000\r", "batch A\r"]  # fmt: skip
     _, said = sender.communicate("\n".join(given), timeout=100)
     took = time.monotonic() - began
-    if hall.rows != ["262.000", "30000", "30000.000"] or took > 20:
+    if hall.rows != ["262.000", "30000", "30000.000"] or hall.batch != "A" or took > 20:
         fail(f"bad lines: {hall.rows} within {took:.1f} s")
     wanted = [f"no weight: b'{'0' * 64}'", f"no weight: b'{'1' * 64}'", "over 30 kg: 30000.001",
-              "no weight: b'262,0'"]  # fmt: skip
+              "no weight: b'262,0'", "no weight: b'batch A B'"]  # fmt: skip
     if said.splitlines() != [f"scale_sender: {line}" for line in wanted]:
         fail(f"bad lines: {said!r}")
     print(f"sender: 20 MB without a line's end and weights over 30 kg are left out, {took:.1f} s")
@@ -473,6 +537,11 @@ def main() -> None:
     check_bad_lines()
     check_lost([], ["262.000", "263.000", "263.000", "263.000", "264.000", "263.000"], 1)
     check_lost(["--book"], ["262.000", "263.000", "263.000", "264.000", "263.000"], 0)
+    check_batches(lambda port: port, 0)
+    check_batches(lambda port: port, 5)
+    check_batches(lambda port: Tunnel(port).port, 0)
+    print(f"sender: {3 * ENDS * CHANGES} changes of a batch, beside {3 * ENDS} halls that end,"
+          " connections that are cut and a tunnel: each weight once, under its batch")  # fmt: skip
     check_slow([], lambda port: port)
     check_slow(["--book"], lambda port: Tunnel(port).port)
     print(f"sender: {ENDS} ends of slow halls at their own port, and {ENDS} behind a tunnel with"

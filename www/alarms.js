@@ -28,17 +28,9 @@ addWords({
     "{batch}: {used} von {allowed} erlaubten verbraucht"],
   silent: ["{lane}: no pack for {time}", "{lane}: seit {time} keine Packung"],
   idleSince: ["{lane} ({batch}): {why}", "{lane} ({batch}): {why}"],
+  idleNone: ["{lane}: {why}", "{lane}: {why}"],
   countryOver: ["{batch}: {used} below T1, {name} allows {allowed}",
     "{batch}: {used} unter T1, {name} erlaubt {allowed}"],
-  // why a lane of the plan stands, as deploy/start writes it
-  "state done": ["its scale ended", "ihre Waage hat geendet"],
-  "state cell": ["its scale failed", "ihre Waage versagt"],
-  "state gate": ["its gate failed", "ihr Tor versagt"],
-  "state bad": ["its scale sent no weight", "ihre Waage sandte kein Gewicht"],
-  "state refused": ["refused by the book", "vom Buch abgelehnt"],
-  "state disk": ["the book's disk failed", "die Platte des Buchs versagt"],
-  "state memory": ["no memory", "kein Speicher"],
-  "state turns": ["its scale reached its bound", "ihre Waage ist an ihrer Grenze"],
 });
 
 export const NEARLY_FULL = 9_500;
@@ -64,15 +56,6 @@ export const isNear = (sheet, forecast) =>
 
 export function isSoonFull(sheet, minutes) {
   return sheet.population > NEARLY_FULL || minutes < settings.alarms.full;
-}
-
-// Why a lane of the plan stands, in words; nothing where it runs.
-export function idleWords(state) {
-  const [first, ...rest] = state.split(" ");
-  if (!first || first === "weighing") return "";
-  const told = say(`state ${first}`);
-  const words = told.startsWith("state ") ? first : told;
-  return rest.length ? `${words} (${rest.join(" ")})` : words;
 }
 
 function batchAlarm({ sheet, forecast, minutes, pack }) {
@@ -110,7 +93,9 @@ function countryAlarm({ sheet, forecast }) {
 
 function laneAlarm({ number, batch, silence, idle }) {
   const lane = laneWords(number);
-  if (idle) return [["warn", "idle", say("idleSince", { lane, batch, why: idle })]];
+  if (idle) {
+    return [["warn", "idle", say(batch ? "idleSince" : "idleNone", { lane, batch, why: idle })]];
+  }
   if (batch && silence > settings.alarms.silence) {
     return [["warn", "idle", say("silent", { lane, time: ago(silence) })]];
   }

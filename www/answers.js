@@ -111,6 +111,10 @@ export function readLanes(text) {
       told.lanes.push({ number: Number(words[1]), batch: words[3],
         state: words.slice(4).join(" ") });
     }
+    if (words[0] === "lane" && words[2] === "changes") {
+      told.lanes.push({ number: Number(words[1]), batch: null, changes: true,
+        state: words.slice(3).join(" ") });
+    }
     if (words[0] === "book" && words[1] === "full") Object.assign(told, { isFull: true, left: 0 });
     if (words[0] === "book" && words[1] === "rows") told.left = Number(words[4]);
   }

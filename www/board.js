@@ -3,7 +3,7 @@
 // anew, so that nothing moves.
 
 import { addWords, say, word } from "./words.js";
-import { AlarmBar, alarmsOf, idleWords, isNear, isSoonFull } from "./alarms.js";
+import { AlarmBar, alarmsOf, isNear, isSoonFull } from "./alarms.js";
 import { Hall, LAST_PACKS } from "./lanes.js";
 import { MOST_PACKS, MOST_ROWS, limitsOf } from "./rules.js";
 import { count, duration, grams, quantity } from "./numbers.js";
@@ -15,6 +15,7 @@ import { forecastOf } from "./forecast.js";
 import { forecastWords } from "./forecastwords.js";
 import { laneWords, settings } from "./settings.js";
 import { packAt, packs } from "./follow.js";
+import { idleWords } from "./standing.js";
 import { spark } from "./spark.js";
 
 addWords({
@@ -25,6 +26,7 @@ addWords({
   aMinute: ["/min", "/min"],
   silentShort: ["no pack", "keine"],
   idleShort: ["idle", "steht"],
+  waitsShort: ["no batch", "keine Charge"],
   fullShort: ["book full", "Buch voll"],
   rowsLeft: ["{left} rows left", "noch {left} Zeilen"],
   rowsAtMost: ["at most {left} rows left", "höchstens noch {left} Zeilen"],
@@ -32,10 +34,10 @@ addWords({
     "Vorschau: die drei Prüfungen aller Packungen, wie das Urteil jetzt wäre."],
   someShown: ["Lanes are fast: about 1 of {apart} packs is drawn.",
     "Schnelle Linien: etwa 1 von {apart} Packungen ist gezeichnet."],
-  emptyBoard: ["No lane has a batch. Open a batch at a desk and give it a lane in the plan; it "
-    + "then stands here.",
-  "Keine Linie hat eine Charge. Am Platz eine Charge eröffnen und ihr im Plan eine Linie geben; "
-    + "dann steht sie hier."],
+  emptyBoard: ["No lane has a batch. Open a batch at a desk and give it a lane, at the lane or in "
+    + "the plan; it then stands here.",
+  "Keine Linie hat eine Charge. Am Platz eine Charge eröffnen und ihr eine Linie geben, an der "
+    + "Linie oder im Plan; dann steht sie hier."],
   spoken: ["{lane}, {batch}: {signal}, {net} g, {rate} a minute. {out}",
     "{lane}, {batch}: {signal}, {net} g, {rate} je Minute. {out}"],
   outOf: ["{count} of the last {all} rejected, the newest: {cause}",
@@ -46,7 +48,10 @@ addWords({
 });
 
 // How often the files beside the pages are asked for anew, in milliseconds.
-const FILES_EVERY = 10_000;
+const FILES_EVERY = 5_000;
+
+// How often what is new is asked, in milliseconds: a change of a lane is seen within a second.
+export const every = 600;
 
 const hall = new Hall();
 const files = { at: 0, plan: { lanes: [], left: null, isFull: false }, left: null, rows: 0 };
@@ -77,7 +82,8 @@ function viewOf(sheet) {
 function laneState(lane) {
   const planned = files.plan.lanes.find(({ number }) => number === lane.number);
   return { number: lane.number, batch: lane.batch ?? planned?.batch,
-    silence: (Date.now() - lane.at) / 1000, idle: planned ? idleWords(planned.state) : "" };
+    silence: (Date.now() - lane.at) / 1000, waits: planned?.changes && !lane.batch,
+    idle: planned ? idleWords(planned.state, lane.batch) : "" };
 }
 
 // Rows left: as the files say less what was weighed since; without them as many as a book may have.
@@ -255,6 +261,7 @@ function putCountry(part, { used, allowed, isOver }, isPlanned) {
 }
 
 function signalOf(lane, state) {
+  if (state.waits) return [state.idle ? "warn" : "idle", "idle", say("waitsShort")];
   if (state.idle) return ["warn", "idle", say("idleShort")];
   if (!lane.batch) return ["idle", "idle", say("idleShort")];
   const last = packs.get(lane.packs.at(-1));
@@ -388,7 +395,7 @@ async function drawNew() {
 // A lane of the plan that stands without ever having weighed is shown too.
 async function askPlanned() {
   for (const { number, batch } of files.plan.lanes) hall.laneOf(number).planned = batch;
-  const wanted = files.plan.lanes.map(({ batch }) => batch);
+  const wanted = files.plan.lanes.map(({ batch }) => batch).filter((batch) => batch);
   await hall.askSheets(new Set(wanted.filter((batch) => !hall.sheets.has(batch))));
 }
 

@@ -9,6 +9,7 @@ import { count, day, quantity } from "./numbers.js";
 import { deskChoice, onDesk } from "./mydesk.js";
 import { icon, loadStyles, make, put, redraw } from "./page.js";
 import { isTask, nextOf } from "./tasks.js";
+import { laneWords } from "./settings.js";
 import { partOf, stepList, stepPanel } from "./steps.js";
 import { onChange } from "./requests.js";
 import { outcomeWords } from "./outcomes.js";
@@ -23,7 +24,7 @@ const BATCH_UNKNOWN = 14;
 const MOST_TASKS = 40;
 const MOST_CLOSED = 8;
 
-const state = { batch: "", listedAt: 0, list: { batches: [], text: "", day: null }, rows: 0,
+const state = { batch: "", changing: [], listedAt: 0, list: { batches: [], text: "", day: null }, rows: 0,
   sheets: new Map(), onLane: new Set(), mode: "", shown: "" };
 let place;
 
@@ -40,6 +41,7 @@ function batchNames() {
 async function askAll() {
   const lanes = await office.allLanes();
   state.onLane = new Set(lanes.map(({ batch }) => batch).filter((batch) => batch));
+  putChanging(lanes);
   const wanted = batchNames();
   if (state.batch && !wanted.includes(state.batch)) wanted.push(state.batch);
   // a closed batch never changes
@@ -79,6 +81,24 @@ function putLists() {
   for (const [list, head] of [[place.runs, place.runsHead], [place.closed, place.closedHead]]) {
     head.hidden = list.children.length === 0;
   }
+}
+
+// The lanes that change their batch, each with what it weighs and a button for another.
+function putChanging(lanes) {
+  const now = JSON.stringify(state.changing.map((number) => lanes[number - 1]?.batch ?? null));
+  if (place.changing.dataset.shown === now) return;
+  place.changing.dataset.shown = now;
+  place.changingHead.hidden = state.changing.length === 0;
+  place.changing.replaceChildren(...state.changing.map((number) => {
+    const button = make("button", { type: "button", className: "second" }, say("changeLane"));
+    button.addEventListener("click", async () => {
+      const dialogs = await import("./change.js").catch(() => null);
+      if (dialogs) await office.following(() => dialogs.open(place.dialog, number));
+      else put(place.said, say("noForm"));
+    });
+    return make("li", {}, make("span", {}, make("strong", {}, laneWords(number)), " ",
+      lanes[number - 1]?.batch ?? say("noBatch")), button);
+  }));
 }
 
 // ---- the middle: a step, a mode, or the form of an act
@@ -229,7 +249,9 @@ function putNames() {
 
 async function askList() {
   state.listedAt = Date.now();
-  state.list = await addListed();
+  const [listed, { lanes }] = await Promise.all([addListed(), office.lanes()]);
+  state.list = listed;
+  state.changing = lanes.filter(({ changes }) => changes).map(({ number }) => number);
   put(place.listed, state.list.text);
   place.force.hidden = !state.list.text;
   put(place.day, state.list.day ? say("bookDay", { day: day(state.list.day) }) : "");
@@ -244,18 +266,21 @@ export async function build(section) {
     work: make("div", { className: "work" }), names: make("div"), listed: make("pre"),
     said: make("p", { className: "said done", role: "status" }),
     day: make("p", { className: "quiet" }),
+    changing: list("plain-list changing"), dialog: make("dialog"),
+    changingHead: make("h3", { hidden: true }, say("changingLanes")),
     runsHead: make("h3", {}, say("runs")), closedHead: make("h3", {}, say("closedLately")) };
   place.force = make("details", { className: "in-force" }, make("summary", {}, say("inForce")),
     place.listed);
   place.desk = make("div", { className: "desk" });
   place.desk.append(
     make("div", { className: "left" }, deskChoice("my-desk"), place.day,
-      make("h2", {}, say("waits")), place.tasks, place.runsHead, place.runs, place.closedHead,
+      make("h2", {}, say("waits")), place.tasks, place.changingHead,
+      place.changing, place.runsHead, place.runs, place.closedHead,
       place.closed, buildMenu()),
     make("div", { className: "middle" }, place.pending, place.said, place.work),
     make("aside", { className: "told", "aria-label": say("told") }, make("h2", {}, say("told")),
       place.told, place.force));
-  section.append(place.desk, place.names);
+  section.append(place.desk, place.names, place.dialog);
   // the forms are there before the first one is opened, also where the link breaks by then
   for (const sign of ["focusin", "pointerover"]) {
     place.desk.addEventListener(sign, loadForms, { once: true });

@@ -3,6 +3,9 @@
 export default {
   // the lists
   waits: "Wartet auf Sie",
+  changingLanes: "Linien, die die Charge wechseln",
+  noBatch: "Keine Charge",
+  changeLane: "Wechseln",
   runs: "Läuft, nichts zu tun",
   closedLately: "Abgeschlossen",
   otherActs: "Jede andere Handlung",

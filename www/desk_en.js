@@ -3,6 +3,9 @@
 export default {
   // the lists
   waits: "Waits for you",
+  changingLanes: "Lanes that change their batch",
+  noBatch: "No batch",
+  changeLane: "Change",
   runs: "Runs, nothing to do",
   closedLately: "Closed",
   otherActs: "Every other act",

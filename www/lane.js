@@ -10,6 +10,7 @@ import { icon, loadStyles, make, meter, put, shape, signalTag } from "./page.js"
 import { keepText, readText } from "./store.js";
 import { forecastOf } from "./forecast.js";
 import { forecastWords } from "./forecastwords.js";
+import { idleWords } from "./standing.js";
 import { laneWords, settings } from "./settings.js";
 
 addWords({
@@ -21,6 +22,11 @@ addWords({
   waitsSince: ["Since {time} no pack came.", "Seit {time} kam keine Packung."],
   idleText: ["This lane has no batch now. The plan of the hall gives it one.",
     "Diese Linie hat jetzt keine Charge. Der Plan der Halle gibt ihr eine."],
+  waitsText: ["This lane waits for a batch. Scan one, or choose it. Until then packs are turned "
+    + "aside.",
+    "Diese Linie wartet auf eine Charge. Eine scannen oder wählen. Bis dahin werden Packungen "
+      + "ausgeschleust."],
+  changeBatch: ["Change batch", "Charge wechseln"],
   offline: ["The book hasn't answered for {time}. What stands here is old.",
     "Das Buch antwortet seit {time} nicht. Was hier steht, ist alt."],
   gateOpens: ["The gate opens.", "Das Tor öffnet."],
@@ -57,11 +63,14 @@ const MOST_ROWS = 512;
 const SHEET_EVERY = 1_500;
 const LATE = 8_000;
 
+// How often how the lanes stand is asked, in milliseconds.
+const PLAN_EVERY = 5_000;
+
 // How often what is new is asked, in milliseconds: a packer waits for the signal.
 export const every = 400;
 
 const state = { lane: 0, batch: null, unsettled: null, packs: [], rows: 0, sheet: null, askedAt: 0,
-  since: 0 };
+  since: 0, plan: null, planAt: 0 };
 const follower = new Follower();
 let place;
 
@@ -90,7 +99,16 @@ async function askSheet() {
   if (!sheet.refused) state.sheet = sheet;
 }
 
+// Whether the lane changes its batch, and what it says of that.
+async function askPlan() {
+  if (Date.now() - state.planAt < PLAN_EVERY) return;
+  state.planAt = Date.now();
+  const { lanes } = await office.lanes();
+  state.plan = lanes.find(({ number }) => number === state.lane) ?? null;
+}
+
 async function ask() {
+  await askPlan();
   const { rows, batch, unsettled } = await office.lane(state.lane);
   if (rows < state.rows) Object.assign(state, { rows: 0, packs: [], sheet: null });
   Object.assign(state, { batch, unsettled });
@@ -135,7 +153,8 @@ function putSignal() {
   }
   if (!state.rows) return undefined;
   if (!state.batch) {
-    return draw("wait", "idle", say("IDLE"), ["", say("idleText")]);
+    return draw("wait", "idle", say("IDLE"), state.plan?.changes
+      ? [idleWords(state.plan.state, null), say("waitsText")] : ["", say("idleText")]);
   }
   const silence = (Date.now() - state.since) / 1000;
   if (!pack || pack.batch !== state.batch || silence > settings.alarms.silence) {
@@ -226,6 +245,35 @@ function buildVoid() {
   });
 }
 
+// A button that opens a dialog with the batches, where the lane changes its batch.
+function buildChange() {
+  place.other = make("dialog");
+  place.change = make("button", { type: "button", className: "second st-change", hidden: true },
+    icon("next"), say("changeBatch"));
+  place.change.addEventListener("click", () => openChange());
+}
+
+async function openChange(scanned) {
+  const dialogs = await import("./change.js").catch(() => null);
+  if (dialogs) await office.following(() => dialogs.open(place.other, state.lane, scanned));
+  else put(place.spoken, say("OFFLINE"));
+  state.planAt = 0;
+}
+
+// A scanner types at this page as soon as it is known that the lane changes its batch.
+async function hearScans() {
+  if (place.isHeard || !state.plan?.changes) return;
+  place.isHeard = true;
+  const dialogs = await import("./change.js").catch(() => null);
+  if (!dialogs) place.isHeard = false;
+  else dialogs.hearScans(() => place.section.isConnected && state.plan?.changes, openChange);
+}
+
+function putChange() {
+  place.change.hidden = !state.plan?.changes;
+  hearScans();
+}
+
 function putVoid() {
   const found = voidable();
   place.void.disabled = !found;
@@ -252,13 +300,14 @@ function buildStation() {
     batch: make("strong"), goods: make("span") });
   place.signal.setAttribute("aria-label", say("signal"));
   buildVoid();
+  buildChange();
   place.section.replaceChildren(part("div", "st-head", place.number,
-    part("p", "st-batch", place.batch, place.goods),
+    part("p", "st-batch", place.batch, place.goods), place.change,
     make("a", { href: "#lane" }, say("otherLane")), make("a", { href: "#board" }, say("board"))),
   part("div", "station", place.signal,
     part("section", "panel st-last", make("h2", {}, say("lastTen")), place.last, place.void),
     part("div", "panel st-progress", place.says, place.progress)),
-  place.spoken, place.dialog);
+  place.spoken, place.dialog, place.other);
   putHead();
   draw("wait", "idle", say("WAIT"), ["", say("loading")]);
   putLast();
@@ -282,7 +331,8 @@ export async function show(about) {
   place.asked = true;
   keepText(KEPT, String(wanted));
   if (wanted !== state.lane) {
-    Object.assign(state, { lane: wanted, packs: [], rows: 0, sheet: null, since: Date.now() });
+    Object.assign(state, { lane: wanted, packs: [], rows: 0, sheet: null, since: Date.now(),
+      plan: null, planAt: 0 });
     follower.forget();
     buildStation();
   }
@@ -299,5 +349,6 @@ export async function refresh() {
     putLast();
     putProgress();
     putVoid();
+    putChange();
   }
 }

@@ -7,6 +7,7 @@ usage: hall-adapter COMMAND ..
   check MAP FILE                     what a recorded stream would give, for who commissions a line
   record MAP                         takes registers down, a poll a line, for `check`
   line SETTINGS                      joins a line to a lane of a hall, as a service
+  lane SETTINGS                      joins scale, scanner and pages to a lane that changes its batch
   metrics SETTINGS                   hands out the numbers of a hall for Prometheus, as a service
 """
 
@@ -43,6 +44,8 @@ def parser() -> argparse.ArgumentParser:
     recorded.add_argument("map")
     joined = commands.add_parser("line", help="joins a line to a lane of a hall")
     joined.add_argument("settings")
+    changed = commands.add_parser("lane", help="joins scale, scanner and pages to a lane")
+    changed.add_argument("settings")
     watched = commands.add_parser("metrics", help="hands out the numbers of a hall for Prometheus")
     watched.add_argument("settings")
     return words
@@ -65,6 +68,10 @@ def run(given: argparse.Namespace) -> int:
             from hall_adapter import record
 
             return record.run(given.map)
+        case "lane":
+            from hall_adapter import lane
+
+            return lane.run(given.settings)
         case "metrics":
             from hall_adapter import watch
 
