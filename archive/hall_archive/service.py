@@ -100,12 +100,11 @@ class People:
         if not lines and not self.waiting:
             return
         upto = self.store.cursor().upto
-        tied, waiting = people.tie_lines(
-            [*self.waiting, *lines], self.store.name, upto, self.store.act_at
-        )
+        given = [*self.waiting, *lines]
+        tied, waiting = people.tie_lines(given, self.store.name, upto, self.store)
         for one in tied:
             if one.fault:
-                log.warning("the front has a line that isn't of its row: %s", one.fault)
+                log.warning("the front has a line of no act: %s", one.fault)
         self.waiting = waiting[-WAITING_LINES:]
         self.log.place = place
         self.store.keep_people(self.log.path, self.begin if self.waiting else place, tied)

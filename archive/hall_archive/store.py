@@ -269,16 +269,18 @@ class Store:
         table = schema.person
         same = (table.c.book == self.book, table.c.row == one.row)
         if link.execute(select(table.c.row).where(*same)).first() is None:
-            link.execute(
-                table.insert().values(
-                    book=self.book,
-                    row=one.row,
-                    name=one.person,
-                    reason=one.reason,
-                    low=one.low,
-                    high=one.high,
-                )
-            )
+            low, high = one.hour or self.hour(link, one.row)
+            values = {"book": self.book, "row": one.row, "name": one.person}
+            values |= {"reason": one.reason, "low": low, "high": high}
+            link.execute(table.insert().values(values))
+
+    def hour(self, link: Any, row: int) -> tuple[int, int]:
+        """When a row came, where the front doesn't say when it was asked for first."""
+        table = schema.answer.c
+        of = (table.book == self.book, table.upto >= row)
+        wanted = select(table.low, table.high).where(*of).order_by(table.upto).limit(1)
+        low, high = link.execute(wanted).one()
+        return high if low is None else low, high
 
     def act_at(self, row: int) -> Entry | None:
         """The act of a row; None where the row is a weighing or isn't here."""
@@ -287,6 +289,16 @@ class Store:
             found = link.execute(
                 select(table.line).where(table.book == self.book, table.row == row)
             ).scalar()
+        return read_line(found) if found else None
+
+    def act_of(self, desk: int, request: int, upto: int) -> Entry | None:
+        """The act of a desk and a request among the first `upto` rows. It is looked for backwards:
+        an act is asked again soon."""
+        table = schema.act.c
+        of = (table.book == self.book, table.row <= upto)
+        wanted = select(table.line).where(*of, table.line.contains(f"\t@{desk} {request} "))
+        with reaching(self.reads.connect()) as link:
+            found = link.execute(wanted.order_by(table.row.desc()).limit(1)).scalar()
         return read_line(found) if found else None
 
     # ---- alarms
