@@ -30,8 +30,9 @@ from hall_archive.store import Store  # noqa: E402
 LOG = "/var/log/nginx/hall-acts.log"
 # ms within which an hour fits what the sender knew, where nothing was killed.
 CLOSE = 300
-# Seconds for which a quiet room is watched, and the rows that are behind when the load begins.
-QUIET, LOAD = 20, 20_000
+# Seconds for which a quiet room is watched, how often, and the rows that are behind when the load
+# begins.
+QUIET, STRETCHES, LOAD = 4, 3, 20_000
 EVER = 1 << 52
 
 
@@ -92,23 +93,23 @@ class Checked:
         statement = "SELECT row, name, reason FROM person WHERE book = :b"
         return {row: (name, why) for row, name, why in self.books.ask(statement, b=self.store.book)}
 
-    def hours(self, first: int, close: int | None) -> list[int]:
-        """Each row's hour holds the time at which it came; the ms of each live row between its
-        hour's ends and what its sender knew, ascending."""
+    def hours(self) -> dict[int, int]:
+        """Each row's hour holds the time at which it came; for each pack that a gate let out and
+        each act, the ms by which its hour goes beyond what its sender knew."""
         text = self.work.text()
         known = self.work.known(text)
         rows = len(text.splitlines())
         low, high = bounds(known, rows)
-        off = []
+        off = {}
         for row in range(1, rows + 1):
             hour = self.books.hour(self.store.book, row)
             assert hour
             need(hour.high >= low[row], f"row {row} came behind {low[row]}: {hour}")
-            need(hour.low is None or hour.low <= high[row], f"row {row}: before {high[row]}, {hour}")
-            if row >= first and row in known and known[row].high < EVER and hour.low:
-                off.append(max(hour.high - known[row].low, known[row].high - hour.low))
-        off.sort()
-        need(close is None or off[-1] <= close, f"an hour is {off[-1]} ms off")
+            need(
+                hour.low is None or hour.low <= high[row], f"row {row}: before {high[row]}, {hour}"
+            )
+            if row in known and known[row].high < EVER and hour.low:
+                off[row] = max(0, known[row].low - hour.low, hour.high - known[row].high)
         return off
 
     def witness(self) -> str:
@@ -132,23 +133,31 @@ def say(text: str) -> None:
 
 
 def quiet(room: Room, work: Work, checked: Checked) -> None:
-    """Nothing is killed: hours are close."""
+    """Nothing is killed: hours are close, in one stretch at least in which the machine did all that
+    was asked of it in time."""
     work.begin()
     room.follower.begin()
     wait(lambda: checked.taken() > 3, "the beginning is taken")
     work.work()
-    first, began, took = checked.taken(), time.monotonic(), room.follower.seconds()
-    time.sleep(QUIET)
-    share = 100 * (room.follower.seconds() - took) / (time.monotonic() - began)
-    rows = checked.taken() - first
+    stretches = []
+    for _ in range(STRETCHES):
+        first, began, took = checked.taken(), time.monotonic(), room.follower.seconds()
+        time.sleep(QUIET)
+        share = 100 * (room.follower.seconds() - took) / (time.monotonic() - began)
+        stretches.append((first, checked.taken(), share))
     with work.still():
         work.end()
         said = checked.whole()
-        off = checked.hours(first + 2, CLOSE)
-    say(
-        f"{rows} rows in {QUIET} s, hours {off[len(off) // 2]} ms off, 99 % {off[len(off) * 99 // 100]},"
-        f" at most {off[-1]}; {share:.1f} % of a processor"
-    )
+        off = checked.hours()
+    most = []
+    for first, last, share in stretches:
+        of = sorted(off[row] for row in range(first + 2, last) if row in off)
+        most.append(of[-1])
+        say(
+            f"{last - first} rows in {QUIET} s, hours beyond what was known: 99 % at most"
+            f" {of[len(of) * 99 // 100]} ms, all {of[-1]}; {share:.1f} % of a processor"
+        )
+    need(min(most) <= CLOSE, f"in each stretch hours are off, by {most} ms")
     say(f"{len(work.acts)} acts with their persons; {said}")
 
 
@@ -168,11 +177,12 @@ def killed(room: Room, work: Work, checked: Checked, kills: int, postgres: Any) 
     with work.still():
         work.end()
         said = checked.whole()
-        checked.hours(1, None)
+        checked.hours()
     need(room.follower.is_running(), "the follower has ended")
     repeats = sum(desk.repeats for desk in work.desks)
-    say(f"{kills} kills, {len(work.text().splitlines())} rows once, {len(work.acts)} acts with their")
-    say(f"persons, {repeats} asked again by another, {said}")
+    rows = len(work.text().splitlines())
+    say(f"{kills} kills, {rows} rows once, {len(work.acts)} acts with their persons and reasons,")
+    say(f"{repeats} of them asked again by another; {said}")
 
 
 def turn_log(front: Front) -> None:
@@ -197,18 +207,23 @@ def loaded(room: Room, work: Work, checked: Checked, postgres: Postgres) -> None
     work.rest()
     work.end()
     said = checked.whole()
-    checked.hours(1, None)
+    checked.hours()
     say(f"PostgreSQL was restarted and killed in mid-load: {said}")
 
 
-def witnessed(room: Room, work: Work, checked: Checked) -> None:
-    """The follower's good end and its start; the witness holds."""
+def witnessed(room: Room, checked: Checked) -> None:
+    """The follower's good end, and its start beside a book at rest; the witness holds."""
     need(room.follower.kill(signal.SIGTERM) == 0, "the follower ends well")
-    checked.begin_at_rest()
+    before = fingerprints(checked.witness())
     room.follower.begin()
-    wait(lambda: "fingerprint" in room.ask("verify", "day")[1], "a witness")
-    work.hall.kill()
+    wait(lambda: fingerprints(room.ask("verify", "day")[1]) > before, "a witness", 30)
     say(f"witness: {checked.witness()}")
+
+
+def fingerprints(said: str) -> int:
+    """Of `verify`: 4 lines and 2 fingerprints hold."""
+    need(said.strip().endswith(" fingerprints hold"), f"verify: {said}")
+    return int(said.split(" ")[-3])
 
 
 def pages(room: Room, work: Work, front: Front) -> None:
@@ -220,7 +235,7 @@ def pages(room: Room, work: Work, front: Front) -> None:
     found = json.loads(wall.send("GET", f"/archive/acts?book=day&person={act.person}").body)
     one = next(one for one in found if one["row"] == row)
     need((one["person"], one["reason"]) == (act.person, act.reason), f"row {row}: {one}")
-    entered = {"nominal": 250_000, "weights": [10_000 + 7 * at for at in range(10)]}
+    entered = {"nominal": 250_000, "empties": [10_000 + 7 * at for at in range(10)]}
     expect(wall.send("POST", "/archive/evidence/tare/P", json.dumps(entered).encode()), 403, "wall")
     reply = anna.send("POST", "/archive/evidence/tare/P", json.dumps(entered).encode())
     expect(reply, 201, f"anna's tare: {reply.body[:300]!r}")
@@ -267,7 +282,7 @@ def full(program: str, front: Front, folder: str, seed: str) -> None:
         work.rest()
         work.end()
         said = checked.whole()
-        checked.hours(1, None)
+        checked.hours()
         say(f"a full disk held the rows behind {taken} up; each is there once: {said}")
     finally:
         end(room, work)
@@ -322,7 +337,8 @@ def over(kind: str, program: str, front: Front, folder: str, kills: int, seed: s
             work.begin()
             work.rest()
             work.end()
-        witnessed(room, work, checked)
+            checked.whole()
+        witnessed(room, checked)
         pages(room, work, front)
         say(spoiled(room, work, checked.store))
     except (Wrong, AssertionError):

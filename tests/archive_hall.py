@@ -66,7 +66,9 @@ class TimedLane(Lane):  # type: ignore[misc]
         while True:
             due = max(due + self.pause, time.monotonic() - self.pause)
             time.sleep(max(0.0, due - time.monotonic()))
-            gross = 241_000 if self.chance.random() < 0.02 else self.chance.randint(258_000, 266_000)
+            gross = (
+                241_000 if self.chance.random() < 0.02 else self.chance.randint(258_000, 266_000)
+            )
             self.times.append(now())
             yield [gross]
 
@@ -118,7 +120,9 @@ class Desk(threading.Thread):
             return
         sheet = self.person.send("GET", f"/hall/batches/{batch}/sample").body.decode()
         for pack in sheet.split()[3:]:
-            self.ask(None, act="measure", pack=int(pack), gross=self.chance.randint(259_000, 264_000))
+            self.ask(
+                None, act="measure", pack=int(pack), gross=self.chance.randint(259_000, 264_000)
+            )
         self.ask("asked for", act="close", batch=batch)
 
     def ask(self, reason: str | None, **members: Any) -> dict[str, Any] | None:

@@ -3,6 +3,7 @@
 import os
 import random
 import shutil
+import signal
 from typing import Any
 
 from archive_hall import Work
@@ -47,7 +48,7 @@ def exchanged(work: Work, lines: list[str]) -> None:
 
 def spoiled(room: Room, work: Work, store: Any) -> str:
     """Each is told: by the follower's refusal, or by its first look; and by `verify`."""
-    room.follower.kill()
+    need(room.follower.kill(signal.SIGTERM) == 0, "the follower ends well")
     good, lines = f"{work.path}.good", work.text().splitlines()
     rows = len(lines)
     shutil.copy(work.path, good)
@@ -68,7 +69,7 @@ def spoiled(room: Room, work: Work, store: Any) -> str:
     shutil.copy(good, work.path)
     status, said = room.ask("verify", "day")
     need(status == 0, f"the good book: {said}")
-    return "told; ".join(told)
+    return "told: " + "; ".join(told)
 
 
 def follow(room: Room, work: Work, store: Any, name: str, is_early: bool) -> None:
@@ -93,7 +94,9 @@ def follow(room: Room, work: Work, store: Any, name: str, is_early: bool) -> Non
 
 def alarms(store: Any) -> list[Any]:
     with store.engine.connect() as link:
-        return list(link.exec_driver_sql("SELECT what FROM alarm WHERE what LIKE '%aren''t those%'"))
+        return list(
+            link.exec_driver_sql("SELECT what FROM alarm WHERE what LIKE '%aren''t those%'")
+        )
 
 
 def forgive(store: Any) -> None:

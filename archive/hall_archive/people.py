@@ -152,9 +152,7 @@ def inode_of(path: str) -> int:
         return 0
 
 
-def tie_lines(
-    lines: list[str], book: str, upto: int, acts: Acts
-) -> tuple[list[Tied], list[str]]:
+def tie_lines(lines: list[str], book: str, upto: int, acts: Acts) -> tuple[list[Tied], list[str]]:
     """The lines of a book that can be tied now, and those whose row isn't taken yet."""
     tied, waiting = [], []
     for text in lines:

@@ -67,7 +67,9 @@ class Acts:
 
     def act_of(self, desk: int, request: int, upto: int) -> Entry | None:
         of = (desk, request)
-        found = [one for row, one in ENTRIES.items() if (one.desk, one.request) == of and row <= upto]
+        found = [
+            one for row, one in ENTRIES.items() if (one.desk, one.request) == of and row <= upto
+        ]
         return found[0] if found else None
 
 
@@ -81,7 +83,9 @@ class Ties(unittest.TestCase):
 
     def test_ties(self) -> None:
         first = self.tied(13, 2)
-        self.assertEqual((first.row, first.hour, first.fault), (13, (1764590000238, 1764590000250), ""))
+        self.assertEqual(
+            (first.row, first.hour, first.fault), (13, (1764590000238, 1764590000250), "")
+        )
         self.assertEqual(self.tied(4, 1, act="open_at").fault, "")
         cases: list[tuple[int, int, dict[str, object]]] = [
             (13, 3, {}),
