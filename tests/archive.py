@@ -1,88 +1,116 @@
-"""The archive beside a book that grows: see tests/archive.sh.
+"""The archive beside a hall at work: see tests/archive.sh.
 
-usage: archive.py FOLDER KILLS SEED"""
+usage: archive.py PROGRAM FOLDER KILLS SEED"""
 
+import json
 import os
-import re
+import random
 import signal
 import subprocess
 import sys
 import time
+from typing import Any
 
-from archive_room import PEOPLE, Growing, Postgres, Room, Wrong, need
+from archive_hall import ARCHIVE_PORT, RATE, Known, Work, now
+from archive_room import Postgres, Room, wait
+from archive_spoiled import spoiled
+from clients import Wrong, need
+from front_clients import Person, expect
+from front_room import Front, mount_room, run
 
 HERE = os.path.dirname(os.path.realpath(__file__))
 sys.path.insert(0, f"{HERE}/../archive")
 
-from hall_archive import nets, store  # noqa: E402
+from archive_hall import PEOPLE  # noqa: E402
+
+from hall_archive import store  # noqa: E402
 from hall_archive.questions import Books  # noqa: E402
-from hall_archive.rows import read_text  # noqa: E402
 from hall_archive.store import Store  # noqa: E402
 
-# ms within which an hour fits what the sender knew, where nothing was killed, and how long a row
-# may take until it is there.
+LOG = "/var/log/nginx/hall-acts.log"
+# ms within which an hour fits what the sender knew, where nothing was killed.
 CLOSE = 300
-# Rows a second, and seconds for which a quiet room is watched.
-RATE, QUIET = 140, 10
+# Seconds for which a quiet room is watched, how often, and the rows that are behind when the load
+# begins.
+QUIET, STRETCHES, LOAD = 4, 3, 20_000
+EVER = 1 << 52
 
 
 class Checked:
-    """What the archive of a room has, beside what came."""
+    """What the archive of a room has, beside what the hall's users know."""
 
-    def __init__(self, room: Room, database: str) -> None:
-        self.room = room
+    def __init__(self, room: Room, work: Work, database: str) -> None:
+        self.room, self.work = room, work
         self.engine = store.open_engine(database)
         self.store = Store(store.open_engine(database, True), "main", "day")
         self.books = Books(self.engine)
 
-    def has_all(self) -> bool:
-        return self.store.cursor().upto == self.room.book.rows
+    def taken(self) -> int:
+        try:
+            return self.store.cursor().upto
+        except store.Unkept:
+            return 0
 
-    def has_people(self) -> bool:
-        found = self.books.ask("SELECT count(*) FROM person WHERE book = :b", b=self.store.book)
-        return int(found[0][0]) >= len(self.room.book.people)
+    def has_all(self, rows: int) -> None:
+        wait(lambda: self.taken() >= rows, f"{rows} rows are taken")
+        need(self.taken() == rows, f"{self.taken()} rows are taken of {rows}")
 
-    def rows(self) -> None:
-        """Every row is there once, in order."""
-        text = self.room.book.text()
+    def whole(self) -> str:
+        """Behind the good end of a hall: all of it is there once, as the book has it, the register
+        and sheets are the book's, and each act has its person."""
+        text = self.work.text()
         lines = text.splitlines()
-        kept = self.store.lines(0, 1 << 20)
-        need(len(kept) == len(lines), f"{len(kept)} rows are kept of {len(lines)}")
-        for one, other in zip(kept, lines, strict=True):
+        self.begin_at_rest()
+        self.has_all(len(lines))
+        for one, other in zip(self.store.lines(0, EVER >> 22), lines, strict=True):
             need(one == other, f"kept is {one!r}, and it was {other!r}")
-        book = nets.Book()
-        for entry in read_text(text, 0):
-            book.take(entry)
-        register = "".join(nets.register(book.packs.values()))
-        need(self.room.ask("register", "day") == (0, register), "the register differs")
-        for name, batch in book.batches.items():
-            said = self.room.ask("sheet", "day", name)
-            need(said == (0, nets.sheet(batch)), f"the sheet of {name} differs: {said}")
+        told = run(self.work.program, "export", "--book", self.work.path)
+        need(self.room.ask("register", "day") == (0, told), "the register differs")
+        status, said = self.room.ask("check", "day")
+        need(status == 0, f"check: {said}")
+        self.people()
+        self.work.hall.kill()
+        alarms = self.books.ask("SELECT what FROM alarm")
+        need(not alarms, f"alarms: {alarms}")
+        return said.strip()
+
+    def begin_at_rest(self) -> None:
+        """The hall of a book at rest: it adds no row."""
+        self.work.begin(lanes=0)
 
     def people(self) -> int:
         """Every act has the one who did it first, and the reason."""
-        found = {
-            row: (name, reason)
-            for row, name, reason in self.books.ask(
-                "SELECT row, name, reason FROM person WHERE book = :b", b=self.store.book
-            )
-        }
-        need(found == self.room.book.people, f"{found} for {self.room.book.people}")
+        wanted = {row: (act.person, act.reason) for row, act in self.work.acts.items()}
+        wait(lambda: len(self.persons()) >= len(wanted), "each act has its person", 30)
+        found = self.persons()
+        rows = sorted(found.keys() | wanted.keys())
+        other = [(row, found.get(row), wanted.get(row)) for row in rows]
+        other = [one for one in other if one[1] != one[2]]
+        need(not other, f"{len(other)} acts of others: {other[:3]}")
         return len(found)
 
-    def hours(self, close: int | None) -> int:
-        """Each row's hour holds the time at which it came; within `close` ms where one is given.
-        The most ms between the two."""
-        most = 0
-        for row, (before, after) in enumerate(self.room.book.times, 1):
+    def persons(self) -> dict[int, tuple[str, str | None]]:
+        statement = "SELECT row, name, reason FROM person WHERE book = :b"
+        return {row: (name, why) for row, name, why in self.books.ask(statement, b=self.store.book)}
+
+    def hours(self) -> dict[int, int]:
+        """Each row's hour holds the time at which it came; for each pack that a gate let out and
+        each act, the ms by which its hour goes beyond what its sender knew."""
+        text = self.work.text()
+        known = self.work.known(text)
+        rows = len(text.splitlines())
+        low, high = bounds(known, rows)
+        off = {}
+        for row in range(1, rows + 1):
             hour = self.books.hour(self.store.book, row)
             assert hour
-            need(hour.high >= before, f"row {row} came at {before}, its hour ends {hour.high}")
-            need(hour.low is None or hour.low <= after, f"row {row}: {after}, {hour}")
-            if hour.kind == "live":
-                most = max(most, hour.high - before, after - (hour.low or after))
-        need(close is None or most <= close, f"an hour is {most} ms off")
-        return most
+            need(hour.high >= low[row], f"row {row} came behind {low[row]}: {hour}")
+            need(
+                hour.low is None or hour.low <= high[row], f"row {row}: before {high[row]}, {hour}"
+            )
+            if row in known and known[row].high < EVER and hour.low:
+                off[row] = max(0, known[row].low - hour.low, hour.high - known[row].high)
+        return off
 
     def witness(self) -> str:
         status, said = self.room.ask("verify", "day")
@@ -90,183 +118,251 @@ class Checked:
         return said.strip()
 
 
-def grow(book: Growing, seconds: float, rate: int = RATE) -> None:
-    """Packs come at a rate, and a batch ends at times."""
-    end = time.monotonic() + seconds
-    due = time.monotonic()
-    while time.monotonic() < end:
-        book.weigh()
-        if len(book.packs) >= 400:
-            book.end_batch()
-        due += 1 / rate
-        time.sleep(max(0.0, due - time.monotonic()))
+def bounds(known: dict[int, Known], rows: int) -> tuple[list[int], list[int]]:
+    """For each row what is known by those before and behind it: rows come in order."""
+    low, high = [0] * (rows + 1), [EVER] * (rows + 2)
+    for row in range(1, rows + 1):
+        low[row] = max(low[row - 1], known[row].low if row in known else 0)
+    for row in range(rows, 0, -1):
+        high[row] = min(high[row + 1], known[row].high if row in known else EVER)
+    return low, high
 
 
-def quiet(room: Room, checked: Checked) -> None:
-    """Nothing is killed: hours are close."""
-    room.hall.begin()
+def say(text: str) -> None:
+    print(f"archive: {text}", flush=True)
+
+
+def quiet(room: Room, work: Work, checked: Checked) -> None:
+    """Nothing is killed: hours are close, in one stretch at least in which the machine did all that
+    was asked of it in time."""
+    work.begin()
     room.follower.begin()
-    room.wait(checked.has_all, "the beginning is taken")
-    began, took = time.monotonic(), room.follower.seconds()
-    first = room.book.rows
-    grow(room.book, QUIET)
-    share = 100 * (room.follower.seconds() - took) / (time.monotonic() - began)
-    room.wait(checked.has_all, "all rows are taken")
-    room.book.end_batch()
-    room.wait(checked.has_all, "all rows are taken")
-    room.wait(checked.has_people, "all persons are tied")
-    checked.rows()
-    off = checked.hours(None)
-    people = checked.people()
-    print(
-        f"archive: {room.book.rows - first} rows at {RATE} a second, hours {off} ms off at most,"
-        f" {people} acts with their persons, {share:.1f} % of a processor",
-        flush=True,
-    )
+    wait(lambda: checked.taken() > 3, "the beginning is taken")
+    work.work()
+    stretches = []
+    for _ in range(STRETCHES):
+        first, began, took = checked.taken(), time.monotonic(), room.follower.seconds()
+        time.sleep(QUIET)
+        share = 100 * (room.follower.seconds() - took) / (time.monotonic() - began)
+        stretches.append((first, checked.taken(), share))
+    with work.still():
+        work.end()
+        said = checked.whole()
+        off = checked.hours()
+    most = []
+    for first, last, share in stretches:
+        of = sorted(off[row] for row in range(first + 2, last) if row in off)
+        most.append(of[-1])
+        say(
+            f"{last - first} rows in {QUIET} s, hours beyond what was known: 99 % at most"
+            f" {of[len(of) * 99 // 100]} ms, all {of[-1]}; {share:.1f} % of a processor"
+        )
+    need(min(most) <= CLOSE, f"in each stretch hours are off, by {most} ms")
+    say(f"{len(work.acts)} acts with their persons; {said}")
 
 
-def killed(room: Room, checked: Checked, kills: int, postgres: Postgres | None) -> None:
-    """Follower, hall and database are killed in turn while packs come."""
-    turns = [room.follower, room.hall] + ([postgres] if postgres else [])
+def killed(room: Room, work: Work, checked: Checked, kills: int, postgres: Any) -> None:
+    """Follower, hall and database are killed in turn while packs come; the front's log is turned."""
+    chance = random.Random(f"kills {work.seed}")
+    turns = [room.follower, work] + ([postgres] if postgres else [])
+    work.begin()
     for turn in range(kills):
-        grow(room.book, room.book.chance.uniform(0.1, 0.6))
+        time.sleep(chance.uniform(0.1, 1.2))
         one = turns[turn % len(turns)]
         one.kill()
-        grow(room.book, room.book.chance.uniform(0.1, 0.6))
+        time.sleep(chance.uniform(0, 0.6))
         one.begin()
-    room.wait(checked.has_all, "all rows are taken behind the kills")
-    room.book.end_batch()
-    room.wait(checked.has_all, "all rows are taken behind the kills")
-    room.wait(checked.has_people, "all persons are tied")
-    checked.rows()
-    checked.hours(None)
-    print(
-        f"archive: {kills} kills, {room.book.rows} rows once, {checked.people()} acts with their"
-        f" persons, the register the book's",
-        flush=True,
-    )
-    time.sleep(2)
+        if turn == kills // 2:
+            turn_log(work.front)
+    with work.still():
+        work.end()
+        said = checked.whole()
+        checked.hours()
+    need(room.follower.is_running(), "the follower has ended")
+    repeats = sum(desk.repeats for desk in work.desks)
+    rows = len(work.text().splitlines())
+    say(f"{kills} kills, {rows} rows once, {len(work.acts)} acts with their persons and reasons,")
+    say(f"{repeats} of them asked again by another; {said}")
+
+
+def turn_log(front: Front) -> None:
+    """As logrotate does."""
+    os.rename(LOG, f"{LOG}.1")
+    front.process.send_signal(signal.SIGUSR1)
+
+
+def loaded(room: Room, work: Work, checked: Checked, postgres: Postgres) -> None:
+    """The database is restarted, and killed, while a follower catches up."""
     need(room.follower.kill(signal.SIGTERM) == 0, "the follower ends well")
+    work.pause = 0
+    work.begin()
+    wait(lambda: sum(len(lane.times) for lane in work.rounds[-1].lanes) > LOAD, "packs are sent")
+    behind = checked.taken()
     room.follower.begin()
-    room.wait(lambda: "fingerprint" in room.ask("verify", "day")[1], "a witness")
-    print(f"archive: witness: {checked.witness()}", flush=True)
+    for restart in (postgres.restart, lambda: (postgres.kill(), postgres.begin())):
+        wait(lambda: checked.taken() > behind, "some rows are taken")
+        restart()
+        behind = checked.taken()
+    work.pause = 1 / RATE
+    work.rest()
+    work.end()
+    said = checked.whole()
+    checked.hours()
+    say(f"PostgreSQL was restarted and killed in mid-load: {said}")
 
 
-def spoiled(room: Room, checked: Checked) -> None:
-    """A changed row, a cut one and an exchanged book are each told, by the follower for the rows
-    before the last and by the witness for the others."""
-    room.follower.kill()
-    good = room.book.text()
-    lines = good.splitlines(keepends=True)
-    weighed = [place for place, line in enumerate(lines) if "\tweigh " in line]
-    for place in (weighed[5], weighed[-1]):
-        changed = re.sub(r"\.(.)", lambda dot: ".1" if dot[1] != "1" else ".2", lines[place])
-        write(room, "".join([*lines[:place], changed, *lines[place + 1 :]]))
-        status, told = room.ask("verify", "day")
-        need(
-            status == 1 and "rows are others" in told,
-            f"row {place + 1}: {told}",
-        )
-    write(room, "".join(lines[:-1]))
-    status, told = room.ask("verify", "day")
-    need(status == 1 and "the book" in told, f"a cut row: {told}")
-    print(f"archive: told: {told.strip()}", flush=True)
-    for text in (
-        "".join(lines[:-1]),
-        "".join([*lines[:-1], lines[-1].replace("lane", "door", 1)]),
-        "".join([*lines[:200], *lines[300:]]),
-    ):
-        write(room, text)
-        room.hall.kill()
-        room.hall.begin()
-        room.follower.begin()
-        assert room.follower.run
-        status = room.follower.run.wait(60)
-        need(status == 5, f"another book is followed: {status}")
-        with open(room.follower.log, encoding="utf-8") as log:
-            last = [line for line in log if "book day isn't the one" in line][-1]
-        forgive(checked)
-    print(f"archive: told: {last.strip()}", flush=True)
-    write(room, good)
-    checked.rows()
+def witnessed(room: Room, checked: Checked) -> None:
+    """The follower's good end, and its start beside a book at rest; the witness holds."""
+    need(room.follower.kill(signal.SIGTERM) == 0, "the follower ends well")
+    before = fingerprints(checked.witness())
+    room.follower.begin()
+    wait(lambda: fingerprints(room.ask("verify", "day")[1]) > before, "a witness", 30)
+    say(f"witness: {checked.witness()}")
 
 
-def write(room: Room, text: str) -> None:
-    with open(room.book.path, "w", encoding="ascii") as file:
-        file.write(text)
+def fingerprints(said: str) -> int:
+    """Of `verify`: 4 lines and 2 fingerprints hold."""
+    need(said.strip().endswith(" fingerprints hold"), f"verify: {said}")
+    return int(said.split(" ")[-3])
 
 
-def forgive(checked: Checked) -> None:
-    """Takes the refusal back, as a person would who has put the right book there."""
-    with checked.store.engine.begin() as link:
-        link.exec_driver_sql("UPDATE book SET refused = NULL")
+def pages(room: Room, work: Work, front: Front) -> None:
+    """Persons ask the archive by the front; one that is stopped delays no act."""
+    room.pages.begin()
+    anna, wall = Person(front, "anna"), Person(front, "wall")
+    wait(lambda: anna.send("GET", "/archive/books").status == 200, "the pages answer", 30)
+    row, act = next((row, act) for row, act in work.acts.items() if act.reason)
+    found = json.loads(wall.send("GET", f"/archive/acts?book=day&person={act.person}").body)
+    one = next(one for one in found if one["row"] == row)
+    need((one["person"], one["reason"]) == (act.person, act.reason), f"row {row}: {one}")
+    entered = {"nominal": 250_000, "empties": [10_000 + 7 * at for at in range(10)]}
+    expect(wall.send("POST", "/archive/evidence/tare/P", json.dumps(entered).encode()), 403, "wall")
+    reply = anna.send("POST", "/archive/evidence/tare/P", json.dumps(entered).encode())
+    expect(reply, 201, f"anna's tare: {reply.body[:300]!r}")
+    need(json.loads(reply.body)["person"] == "anna", f"{reply.body[:300]!r}")
+    checked_slow(room, work, anna)
+    room.pages.kill()
 
 
-def full(folder: str, seed: str) -> None:
+def checked_slow(room: Room, work: Work, anna: Person) -> None:
+    """Acts while both of the archive's services are stopped."""
+    work.begin(lanes=0)
+    for one in (room.pages, room.follower):
+        assert one.run
+        one.run.send_signal(signal.SIGSTOP)
+    began = time.monotonic()
+    for _ in range(20):
+        expect(anna.send("GET", "/hall/summary"), 200, "the hall beside a stopped archive")
+    took = time.monotonic() - began
+    for one in (room.pages, room.follower):
+        assert one.run
+        one.run.send_signal(signal.SIGCONT)
+    work.hall.kill()
+    need(took < 10, f"20 questions took {took} s")
+    say(f"20 questions beside a stopped archive: {took:.2f} s")
+
+
+def full(program: str, front: Front, folder: str, seed: str) -> None:
     """The disk of the archive fills up, and has room again."""
-    os.makedirs(folder)
-    subprocess.run(["mount", "-t", "tmpfs", "-o", "size=3m", "tmpfs", folder], check=True)
+    disk = f"{folder}/disk"
+    os.makedirs(disk)
+    subprocess.run(["mount", "-t", "tmpfs", "-o", "size=4m", "tmpfs", disk], check=True)
+    room, work, checked = furnish(program, front, folder, f"sqlite:///{disk}/archive.db", seed)
     try:
-        elsewhere = f"{folder}.room"
-        database = f"sqlite:///{folder}/archive.db"
-        room = Room(elsewhere, database, seed)
-        checked = None
-        room.hall.begin()
+        work.begin()
         room.follower.begin()
-        time.sleep(5)
-        checked = Checked(room, database)
-        room.wait(checked.has_all, "the beginning is taken")
-        with open(f"{folder}/filler", "wb") as filler:
-            try:
-                while True:
-                    filler.write(bytes(4096))
-                    filler.flush()
-            except OSError:
-                pass
-        grow(room.book, 4)
-        time.sleep(2)
-        taken = checked.store.cursor().upto
-        need(taken < room.book.rows, "the disk isn't full")
-        os.remove(f"{folder}/filler")
-        room.wait(checked.has_all, "all rows are taken once there is room")
-        checked.rows()
-        checked.hours(None)
-        print(
-            f"archive: a full disk held {room.book.rows - taken} rows up, each is there once",
-            flush=True,
-        )
+        wait(lambda: checked.taken() > 3, "the beginning is taken")
+        work.work()
+        with open(f"{disk}/filler", "wb") as filler:
+            fill(filler)
+        time.sleep(10)
+        taken = checked.taken()
+        need("full" in room.follower.said(), "the disk isn't full")
+        os.remove(f"{disk}/filler")
+        work.rest()
+        work.end()
+        said = checked.whole()
+        checked.hours()
+        say(f"a full disk held the rows behind {taken} up; each is there once: {said}")
     finally:
-        for one in (room.follower, room.hall):
+        end(room, work)
+        subprocess.run(["umount", "-l", disk], check=False)
+
+
+def fill(filler: Any) -> None:
+    try:
+        while True:
+            filler.write(bytes(4096))
+            filler.flush()
+    except OSError:
+        pass
+
+
+def furnish(
+    program: str, front: Front, folder: str, database: str, seed: str
+) -> tuple[Room, Work, Checked]:
+    os.makedirs(folder, exist_ok=True)
+    for path in (LOG, f"{LOG}.1"):
+        if os.path.exists(path):
+            os.remove(path)
+    front.process.send_signal(signal.SIGUSR1)
+    work = Work(program, folder, front, seed)
+    room = Room(folder, database, front=LOG, program=program, books=folder, door=ARCHIVE_PORT)
+    done = room.ask("migrate")
+    need(done == (0, ""), f"the tables are made: {done}")
+    return room, work, Checked(room, work, database)
+
+
+def end(room: Room, work: Work) -> None:
+    work.is_over.set()
+    for one in (room.follower, room.pages):
+        if one.is_running():
             one.kill()
-        subprocess.run(["umount", "-l", folder], check=False)
+    if work.hall:
+        work.hall.kill()
+
+
+def over(kind: str, program: str, front: Front, folder: str, kills: int, seed: str) -> None:
+    """All of it over one kind of database."""
+    postgres = Postgres(folder) if kind == "postgresql" else None
+    url = postgres.url if postgres else f"sqlite:///{folder}/archive.db"
+    say(f"over {kind}")
+    room, work, checked = furnish(program, front, f"{folder}/{kind}", url, f"{seed} {kind}")
+    try:
+        quiet(room, work, checked)
+        killed(room, work, checked, kills, postgres)
+        if postgres:
+            loaded(room, work, checked, postgres)
+        else:
+            work.begin()
+            work.rest()
+            work.end()
+            checked.whole()
+        witnessed(room, checked)
+        pages(room, work, front)
+        say(spoiled(room, work, checked.store))
+    except (Wrong, AssertionError):
+        print(room.follower.said()[-3000:], file=sys.stderr)
+        raise
+    finally:
+        end(room, work)
+        if postgres:
+            postgres.kill()
 
 
 def main() -> None:
-    folder, kills, seed = sys.argv[1], int(sys.argv[2]), sys.argv[3]
-    for kind in ("sqlite", "postgresql"):
-        postgres = Postgres(folder) if kind == "postgresql" else None
-        database = postgres.url if postgres else f"sqlite:///{folder}/archive.db"
-        print(f"archive: over {kind}", flush=True)
-        room = Room(f"{folder}/{kind}", database, f"{seed} {kind}")
-        done = room.ask("migrate")
-        need(done == (0, ""), f"the tables are made: {done}")
-        checked = Checked(room, database)
-        try:
-            quiet(room, checked)
-            killed(room, checked, kills // 2, postgres)
-            spoiled(room, checked)
-        except Wrong:
-            with open(room.follower.log, encoding="utf-8", errors="replace") as log:
-                print(log.read()[-3000:], file=sys.stderr)
-            raise
-        finally:
-            for one in (room.follower, room.hall):
-                if one.run and one.run.poll() is None:
-                    one.kill()
-            if postgres:
-                postgres.kill()
-    full(f"{folder}/full", seed)
-    print(f"seed {seed}, persons {', '.join(PEOPLE.values())}")
+    program, folder, kills, seed = sys.argv[1], sys.argv[2], int(sys.argv[3]), sys.argv[4]
+    mount_room()
+    front = Front(PEOPLE)
+    front.start()
+    began = now()
+    try:
+        over("sqlite", program, front, folder, kills // 2, seed)
+        over("postgresql", program, front, folder, kills - kills // 2, seed)
+        full(program, front, f"{folder}/full", seed)
+    finally:
+        front.stop()
+    say(f"seed {seed}, {(now() - began) // 1000} s")
 
 
 main()

@@ -82,22 +82,25 @@ def follow(settings: Settings, word: str, _: str) -> int:
 def beside(
     settings: Settings, book: BookSettings, engine: Any, following: Following, thread: Any
 ) -> None:
-    """What goes on beside the follower: persons, checks, the witness. A fault of one of them
-    ends nothing."""
+    """What goes on beside the follower, and a last time behind it: persons, checks, the witness. A
+    fault of one of them ends nothing."""
     kept = Store(engine, book.hall, book.name)
     reader = settings.reader()
     people = People(kept, settings.front) if settings.front else None
     witnessing = witnessing_of(settings, book, kept, reader)
     checking = Checking(kept, Books(store.open_engine(settings.database)), reader)
-    said, next_witness = Said(), 0.0
-    while thread.is_alive() and not following.stop.wait(PEOPLE_EVERY):
+    said, next_witness, goes_on = Said(), 0.0, True
+    while goes_on:
+        goes_on = thread.is_alive() and not following.stop.wait(PEOPLE_EVERY)
+        if not goes_on:
+            thread.join()
         moment = time.time_ns() // 1_000_000
         closed, following.closed = following.closed, []
         checking.due += closed
         try:
             if people:
                 people.look()
-            if closed or time.monotonic() >= next_witness:
+            if closed or not goes_on or time.monotonic() >= next_witness:
                 next_witness = time.monotonic() + WITNESS_EVERY
                 if witnessing:
                     witnessing.look(bool(closed), moment)

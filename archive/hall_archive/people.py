@@ -2,14 +2,14 @@
 
 The front's line has the time of the answer and how long it took (seconds of UTC), the hall's book,
 the person, the status, the row that the answer named, and the body of the act; never a password.
-Desk and request are no key, since a refused number comes again: a line is of the row that it was
-answered with status 200, where that row has its desk, its request and its act. A repeat is answered
-with the same row: the first line is the one who acted."""
+Desk and request are no key of lines, since a refused number comes again: a line of status 200 is of
+the row that it was answered, where that row has its desk, its request and its act. A repeat is
+answered with how many rows the book has by then: it is of the act before that has the desk and the
+request, which no two acts of a book have. The first line of a row is the one who acted."""
 
 import json
 import os
-from collections.abc import Callable
-from typing import Any, NamedTuple
+from typing import Any, NamedTuple, Protocol
 
 from hall_archive.rows import Entry
 
@@ -42,16 +42,33 @@ class Line(NamedTuple):
     text: str
 
 
+class Hour(NamedTuple):
+    """From when the front had a request to when it had answered, ms of UTC."""
+
+    low: int
+    high: int
+
+
 class Tied(NamedTuple):
-    """A line that is tied to its row; or, with `fault`, one that names a row that isn't its own."""
+    """A line that is tied to its row; or, with `fault`, one of no act of the book. A repeat has no
+    hour: it was asked later than its act."""
 
     row: int
     person: str
     reason: str | None
-    low: int
-    high: int
+    hour: Hour | None
     line: str
     fault: str
+
+
+class Acts(Protocol):
+    """The acts of a book."""
+
+    def act_at(self, row: int) -> Entry | None:
+        """The act of a row; None where there is none."""
+
+    def act_of(self, desk: int, request: int, upto: int) -> Entry | None:
+        """The act of a desk and a request, among the first `upto` rows."""
 
 
 def read_line(text: str, book: str) -> Line | None:
@@ -75,17 +92,24 @@ def reason_of(body: dict[str, Any]) -> str | None:
     return reason[:REASON_LETTERS] if isinstance(reason, str) and reason.strip() else None
 
 
-def tie(line: Line, entry: Entry | None) -> Tied:
-    """Ties a line to the act of its row, where that is the act of the line."""
-    kind = WORDS.get(line.act, line.act)
-    fault = ""
-    if entry is None:
-        fault = f"row {line.row} is no act of a desk"
-    elif (entry.desk, entry.request) != (line.desk, line.request):
-        fault = f"row {line.row} is of desk {entry.desk}, request {entry.request}"
-    elif type(entry.act).__name__.lower() != kind:
-        fault = f"row {line.row} is another act: {type(entry.act).__name__.lower()}"
-    return Tied(line.row, line.person, line.reason, line.low, line.high, line.text, fault)
+def is_of(line: Line, entry: Entry | None) -> bool:
+    """Whether an act has a line's desk, request and kind."""
+    if entry is None or (entry.desk, entry.request) != (line.desk, line.request):
+        return False
+    return type(entry.act).__name__.lower() == WORDS.get(line.act, line.act)
+
+
+def tie(line: Line, acts: Acts) -> Tied:
+    """Ties a line to its act."""
+    row, fault = line.row, ""
+    hour: Hour | None = Hour(line.low, line.high)
+    if not is_of(line, acts.act_at(row)):
+        hour, before = None, acts.act_of(line.desk, line.request, row)
+        if before and is_of(line, before):
+            row = before.row
+        else:
+            fault = f"up to row {row} no {line.act} is of desk {line.desk}, request {line.request}"
+    return Tied(row, line.person, line.reason, hour, line.text, fault)
 
 
 class Log:
@@ -128,9 +152,7 @@ def inode_of(path: str) -> int:
         return 0
 
 
-def tie_lines(
-    lines: list[str], book: str, upto: int, act_at: Callable[[int], Entry | None]
-) -> tuple[list[Tied], list[str]]:
+def tie_lines(lines: list[str], book: str, upto: int, acts: Acts) -> tuple[list[Tied], list[str]]:
     """The lines of a book that can be tied now, and those whose row isn't taken yet."""
     tied, waiting = [], []
     for text in lines:
@@ -140,5 +162,5 @@ def tie_lines(
         if line.row > upto:
             waiting.append(text)
         else:
-            tied.append(tie(line, act_at(line.row)))
+            tied.append(tie(line, acts))
     return tied, waiting

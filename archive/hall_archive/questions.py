@@ -43,7 +43,7 @@ class Books:
         self.engine = engine
 
     def ask(self, statement: str, **values: Any) -> list[Any]:
-        with reaching(self.engine.connect()) as link:
+        with reaching(self.engine.connect) as link:
             return list(link.execute(text(statement), values).all())
 
     def number(self, hall: str, name: str) -> int | None:
@@ -100,7 +100,7 @@ class Books:
             SELECT p.row, p.batch, p.day, p.gross, p.lane, p.signal, m.pile
             FROM pack p LEFT JOIN move m ON m.book = p.book AND m.pack = p.row
             WHERE p.book = {book} ORDER BY p.row"""
-        with reaching(self.engine.connect()) as link:
+        with reaching(self.engine.connect) as link:
             found = link.execution_options(stream_results=True, yield_per=CHUNK)
             for row, batch, day, gross, lane, signal, pile in found.exec_driver_sql(statement):
                 if (batch, day) not in known:

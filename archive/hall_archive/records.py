@@ -23,7 +23,7 @@ class Records:
     ) -> Record:
         """Adds a record behind the last one of its hall."""
         table = schema.evidence
-        with reaching(self.engine.begin()) as link:
+        with reaching(self.engine.begin) as link:
             if self.engine.dialect.name == "postgresql":
                 link.exec_driver_sql("LOCK TABLE evidence IN EXCLUSIVE MODE")
             before = link.execute(
@@ -46,7 +46,7 @@ class Records:
             wanted = wanted.where(table.kind == kind)
         if subject:
             wanted = wanted.where(table.subject == subject)
-        with reaching(self.engine.connect()) as link:
+        with reaching(self.engine.connect) as link:
             return [Record(*row) for row in link.execute(wanted)]
 
     def newest(self, hall: str) -> list[Record]:

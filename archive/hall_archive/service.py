@@ -7,6 +7,7 @@ import threading
 import time
 from collections.abc import Callable
 from datetime import UTC, datetime
+from typing import NamedTuple
 
 from hall_archive import checks, following, people
 from hall_archive.following import Behind, Follower, OtherBook, Unanswered, Unkept
@@ -100,12 +101,11 @@ class People:
         if not lines and not self.waiting:
             return
         upto = self.store.cursor().upto
-        tied, waiting = people.tie_lines(
-            [*self.waiting, *lines], self.store.name, upto, self.store.act_at
-        )
+        given = [*self.waiting, *lines]
+        tied, waiting = people.tie_lines(given, self.store.name, upto, self.store)
         for one in tied:
             if one.fault:
-                log.warning("the front has a line that isn't of its row: %s", one.fault)
+                log.warning("the front has a line of no act: %s", one.fault)
         self.waiting = waiting[-WAITING_LINES:]
         self.log.place = place
         self.store.keep_people(self.log.path, self.begin if self.waiting else place, tied)
@@ -113,9 +113,17 @@ class People:
             self.begin = place
 
 
+class Audit(NamedTuple):
+    """What `hall audit` says of the first rows of a book's file."""
+
+    rows: int
+    digest: str
+
+
 class Witnessing:
     """Keeps the witness of a book: at the start, at each closing, each minute with new rows, and
-    nightly with the fingerprint of `hall audit`."""
+    nightly. At starts, closings and nights a line has the fingerprint of `hall audit` too, as soon
+    as the book's file has as many rows: a running hall keeps its newest row back."""
 
     def __init__(self, store: Store, witness: Witness, reader: Reader) -> None:
         self.store = store
@@ -123,45 +131,65 @@ class Witnessing:
         self.reader = reader
         self.running = Running()
         self.night = ""
+        # how many rows the next fingerprint is of at least, where one is due; and by how many rows
+        # the program was asked for it last
+        self.due: int | None = None
+        self.asked = 0
 
     def look(self, has_closed: bool, moment: int) -> None:
-        """Appends a line where one is due; an alarm where the book has other rows than the
+        """Appends the lines that are due; an alarm where the book has other rows than the
         archive."""
         upto = self.store.cursor().upto
-        night = datetime.fromtimestamp(moment // 1000, UTC)
-        is_night = night.hour == NIGHT and self.night != f"{night:%F}"
-        is_first = self.running.rows == 0 and upto > 0
+        if upto and (self.is_night(moment) or has_closed or self.running.rows == 0):
+            self.due, self.asked = upto, 0
+        if self.due is not None and self.asked != upto:
+            self.asked = upto
+            if audit := self.audit(upto):
+                self.hold(audit, moment)
         if upto > self.running.rows:
-            self.running.add(map(bytes_of, self.store.entries(self.running.rows)))
-        elif not is_night:
-            return
-        if is_night:
-            self.night = f"{night:%F}"
-        audit = self.audit(moment) if has_closed or is_first or is_night else ""
+            self.put(upto, moment, "")
+
+    def is_night(self, moment: int) -> bool:
+        """Whether the night's fingerprint is due; once in each night."""
+        now = datetime.fromtimestamp(moment // 1000, UTC)
+        if now.hour != NIGHT or self.night == f"{now:%F}":
+            return False
+        self.night = f"{now:%F}"
+        return True
+
+    def hold(self, audit: Audit, moment: int) -> None:
+        """Holds a fingerprint against the archive's rows; its line is put where it has as many rows
+        as are due, and as the line before. One of other rows is an alarm, and gets no line."""
+        assert self.due is not None
+        if audit.digest != self.fingerprint(audit.rows):
+            why = f"the book's first {audit.rows} rows aren't those that were followed"
+            self.store.alarm(moment, why)
+            log.error("%s: %s", self.store.name, why)
+            self.due = None
+        elif audit.rows >= max(self.due, self.running.rows):
+            self.put(audit.rows, moment, audit.digest)
+            self.due = None
+
+    def put(self, rows: int, moment: int, audit: str) -> None:
+        """Appends the line of so many rows."""
+        new = self.store.entries(self.running.rows, rows)
+        self.running.add(map(bytes_of, new))
         said = self.witness.append(moment, self.running.rows, self.running.hex(), audit)
         log.info("witness of %s: %s", self.store.name, said)
 
-    def audit(self, moment: int) -> str:
-        """The fingerprint of as many rows, where the book's file has them already."""
-        rows = self.running.rows
+    def audit(self, upto: int) -> Audit | None:
+        """The fingerprint of the book's first rows, `upto` at most; None without an answer."""
         try:
-            said = b"".join(self.reader.ask(self.store.name, "audit", str(rows))).decode("ascii")
+            said = b"".join(self.reader.ask(self.store.name, "audit", str(upto))).decode("ascii")
         except NotRead as fault:
             log.warning("%s", fault)
-            return ""
+            return None
         words = dict(line.split(" ", 1) for line in said.splitlines() if " " in line)
-        whole = words.get("rows", "0").split(" ")[0]
-        if int(whole) < rows:
-            return ""
-        if words.get("sha256") != self.fingerprint():
-            why = f"the book's first {rows} rows aren't those that were followed"
-            self.store.alarm(moment, why)
-            log.error("%s: %s", self.store.name, why)
-        return words.get("sha256", "")
+        rows = min(upto, int(words.get("rows", "0").split(" ")[0]))
+        return Audit(rows, words.get("sha256", "")) if rows else None
 
-    def fingerprint(self) -> str:
-        """What `audit` has to say of as many rows, by the rows of the archive."""
-        rows = self.running.rows
+    def fingerprint(self, rows: int) -> str:
+        """What `audit` has to say of so many rows, by those of the archive."""
         return fingerprint(rows, map(bytes_of, self.store.entries(upto=rows)))
 
 

@@ -4,18 +4,20 @@ and `questions` alone import sqlalchemy."""
 import io
 import logging
 import os
-from collections.abc import Iterator, Sequence
+from collections.abc import Callable, Iterator, Sequence
 from contextlib import contextmanager
 from typing import Any
 
 from alembic import command
 from alembic.config import Config
 from sqlalchemy import create_engine, event, func, select, text
-from sqlalchemy.exc import DBAPIError
+from sqlalchemy.engine import make_url
+from sqlalchemy.exc import DBAPIError, TimeoutError
+from sqlalchemy.pool import QueuePool
 
 from hall_archive import nets, schema
 from hall_archive.clock import Answer, Clock
-from hall_archive.following import Behind, Cursor, Taken, Unkept
+from hall_archive.following import BatchRow, Behind, Cursor, Taken, Unkept
 from hall_archive.people import Place, Tied
 from hall_archive.rows import MAX_ROWS, PRIORS, SIGNALS, Entry, Weigh, line_of, read_line
 
@@ -28,6 +30,11 @@ CHUNK = 8_192
 WEIGHINGS = """
     SELECT row, by, lane, gross, prior, signal FROM pack
     WHERE book = %d AND row > %d AND row <= %d ORDER BY row"""
+# those of each commit, without what sqlalchemy's Core adds to their time; %s is a place of a value
+MOVE_CURSOR = "UPDATE book SET upto = %s, asked = %s, clock = %s WHERE id = %s AND upto = %s"
+PUT_BATCH = """
+    UPDATE batch SET name = %s, product = %s, state = %s, verdict = %s, first = %s, last = %s,
+    closed = %s WHERE book = %s AND row = %s"""
 # by the range of each open batch, so that the closed ones cost nothing
 OPEN_WEIGHINGS = """
     SELECT p.row, p.by, p.lane, p.gross, p.prior, p.signal FROM batch b
@@ -39,8 +46,11 @@ OPEN_WEIGHINGS = """
 def open_engine(url: Any, writes: bool = False) -> Any:
     """The database of a URL (`sqlite:////var/lib/hall-archive/archive.db`, `postgresql:///hall`).
     What writes takes its lock at once, so that two writers never meet half way."""
-    engine = create_engine(url, future=True, pool_pre_ping=True)
-    if engine.dialect.name == "sqlite":
+    if make_url(url).get_backend_name() == "sqlite":
+        # kept open: each close of the last connection would write the whole log back
+        engine = create_engine(
+            url, future=True, poolclass=QueuePool, connect_args={"check_same_thread": False}
+        )
         begin = "BEGIN IMMEDIATE" if writes else "BEGIN"
 
         @event.listens_for(engine, "connect")  # type: ignore[misc]
@@ -53,7 +63,8 @@ def open_engine(url: Any, writes: bool = False) -> Any:
         def began(link: Any) -> None:
             link.exec_driver_sql(begin)
 
-    return engine
+        return engine
+    return create_engine(url, future=True, pool_pre_ping=True)
 
 
 def migrate(engine: Any) -> None:
@@ -67,13 +78,15 @@ def migrate(engine: Any) -> None:
 
 
 @contextmanager
-def reaching(begun: Any) -> Iterator[Any]:
-    """A connection or a transaction; Unkept where the database fails."""
+def reaching(begin: Callable[[], Any]) -> Iterator[Any]:
+    """A connection or a transaction; Unkept where the database fails, at its beginning too."""
     try:
-        with begun as link:
+        with begin() as link:
             yield link
     except DBAPIError as fault:
         raise Unkept(str(fault.orig).strip()) from fault
+    except TimeoutError as fault:
+        raise Unkept("all connections to the database are busy") from fault
 
 
 class Store:
@@ -86,12 +99,13 @@ class Store:
         self.hall = hall
         self.name = name
         self.is_postgres = engine.dialect.name == "postgresql"
+        self.place_mark = "%s" if self.is_postgres else "?"
         self.clocks: dict[Clock, int] = {}
         self.book = self.number()
 
     def number(self) -> int:
         """The number of the book here; it is put in where it is new."""
-        with reaching(self.engine.begin()) as link:
+        with reaching(self.engine.begin) as link:
             found = link.execute(
                 select(schema.book.c.id).where(
                     schema.book.c.hall == self.hall, schema.book.c.name == self.name
@@ -106,7 +120,7 @@ class Store:
 
     def cursor(self) -> Cursor:
         table = schema.book.c
-        with reaching(self.reads.connect()) as link:
+        with reaching(self.reads.connect) as link:
             upto, asked, clock, refused = link.execute(
                 select(table.upto, table.asked, table.clock, table.refused).where(
                     table.id == self.book
@@ -124,7 +138,7 @@ class Store:
 
     def refuse(self, why: str) -> None:
         """Takes down that the book at hand is another one."""
-        with reaching(self.engine.begin()) as link:
+        with reaching(self.engine.begin) as link:
             link.execute(
                 schema.book.update().where(schema.book.c.id == self.book).values(refused=why)
             )
@@ -132,7 +146,7 @@ class Store:
     def closed(self) -> set[str]:
         """The names of the batches that are closed."""
         table = schema.batch.c
-        with reaching(self.reads.connect()) as link:
+        with reaching(self.reads.connect) as link:
             rows = link.execute(
                 select(table.name).where(table.book == self.book, table.state == "closed")
             )
@@ -159,7 +173,7 @@ class Store:
         table = schema.act.c
         of = (table.book == self.book, table.row > after, table.row <= upto)
         wanted = select(table.line).where(*of)
-        with reaching(self.reads.connect()) as link:
+        with reaching(self.reads.connect) as link:
             lines = [line for (line,) in link.execute(wanted.order_by(table.row))]
         return map(read_line, lines)
 
@@ -170,7 +184,7 @@ class Store:
         upto: int = MAX_ROWS,
     ) -> Iterator[Entry]:
         """Weighings, in order, a chunk at a time."""
-        with reaching(self.reads.connect()) as link:
+        with reaching(self.reads.connect) as link:
             found = link.execution_options(stream_results=True, yield_per=CHUNK)
             for row, by, lane, gross, prior, signal in found.exec_driver_sql(
                 statement % (self.book, after, upto)
@@ -183,14 +197,10 @@ class Store:
     def keep(self, taken: Taken) -> None:
         """Keeps what was taken, all of it or nothing; Behind where the archive is at another
         row than this begins."""
-        with reaching(self.engine.begin()) as link:
+        with reaching(self.engine.begin) as link:
             clock = self.clock_number(link, taken.clock)
-            at = link.execute(
-                schema.book.update()
-                .where(schema.book.c.id == self.book, schema.book.c.upto == taken.after)
-                .values(upto=taken.upto, asked=taken.asked, clock=clock)
-            )
-            if at.rowcount != 1:
+            moved = (taken.upto, taken.asked, clock, self.book, taken.after)
+            if self.hot(link, MOVE_CURSOR, moved) != 1:
                 raise Behind(f"{self.name}: the archive isn't at row {taken.after}")
             self.insert(link, "pack", [(*pack, self.book, *more) for pack, more in taken.packs])
             moves = [(m.pack, m.row, self.book, nets.PILES.index(m.pile)) for m in taken.moves]
@@ -199,7 +209,12 @@ class Store:
             self.insert(link, "act", acts)
             self.insert(link, "answer", [self.answer_row(link, one) for one in taken.answers])
             for batch in taken.batches:
-                self.put_batch(link, batch._asdict())
+                self.put_batch(link, batch)
+
+    def hot(self, link: Any, statement: str, values: tuple[Any, ...]) -> int:
+        """Runs a statement of each commit; how many rows it changed."""
+        done = link.exec_driver_sql(statement.replace("%s", self.place_mark), values)
+        return int(done.rowcount)
 
     def clock_number(self, link: Any, clock: Clock | None) -> int | None:
         """The number of a clock here; it is put in where it is new."""
@@ -219,28 +234,35 @@ class Store:
         clock = self.clock_number(link, one.clock)
         return one.low, one.high, one.upto, clock, self.book, KINDS.index(one.kind)
 
-    def put_batch(self, link: Any, values: dict[str, Any]) -> None:
-        table = schema.batch
-        same = (table.c.book == self.book, table.c.row == values["row"])
-        if link.execute(table.update().where(*same).values(values)).rowcount == 0:
-            link.execute(table.insert().values(book=self.book, **values))
+    def put_batch(self, link: Any, batch: BatchRow) -> None:
+        row, *values = batch
+        if self.hot(link, PUT_BATCH, (*values, self.book, row)) == 0:
+            link.execute(schema.batch.insert().values(book=self.book, **batch._asdict()))
 
     def insert(self, link: Any, table: str, rows: Sequence[tuple[Any, ...]]) -> None:
         """Inserts rows whose values stand in the order of the table's columns."""
         if not rows:
             return
         if self.is_postgres:
-            with link.connection.cursor() as cursor:
-                cursor.copy_expert(f"COPY {table} FROM STDIN", io.StringIO(copied(rows)))
+            self.copy(link, table, copied(rows))
         else:
             marks = ", ".join("?" * len(rows[0]))
             link.exec_driver_sql(f"INSERT INTO {table} VALUES ({marks})", rows)
+
+    def copy(self, link: Any, table: str, text: str) -> None:
+        """Copies rows into PostgreSQL, past sqlalchemy, which else makes its errors one of its
+        own."""
+        try:
+            with link.connection.cursor() as cursor:
+                cursor.copy_expert(f"COPY {table} FROM STDIN", io.StringIO(text))
+        except self.engine.dialect.dbapi.Error as fault:
+            raise Unkept(str(fault).strip()) from fault
 
     # ---- persons
 
     def place(self, path: str) -> Place:
         table = schema.front_log.c
-        with reaching(self.reads.connect()) as link:
+        with reaching(self.reads.connect) as link:
             found = link.execute(
                 select(table.file, table.place).where(table.path == self.log(path))
             ).one_or_none()
@@ -252,7 +274,7 @@ class Store:
 
     def keep_people(self, path: str, place: Place, tied: list[Tied]) -> None:
         """Keeps who acted, the first of each row, and how far the log was read."""
-        with reaching(self.engine.begin()) as link:
+        with reaching(self.engine.begin) as link:
             for one in tied:
                 self.keep_person(link, one)
             table = schema.front_log
@@ -269,24 +291,36 @@ class Store:
         table = schema.person
         same = (table.c.book == self.book, table.c.row == one.row)
         if link.execute(select(table.c.row).where(*same)).first() is None:
-            link.execute(
-                table.insert().values(
-                    book=self.book,
-                    row=one.row,
-                    name=one.person,
-                    reason=one.reason,
-                    low=one.low,
-                    high=one.high,
-                )
-            )
+            low, high = one.hour or self.hour(link, one.row)
+            values = {"book": self.book, "row": one.row, "name": one.person}
+            values |= {"reason": one.reason, "low": low, "high": high}
+            link.execute(table.insert().values(values))
+
+    def hour(self, link: Any, row: int) -> tuple[int, int]:
+        """When a row came, where the front doesn't say when it was asked for first."""
+        table = schema.answer.c
+        of = (table.book == self.book, table.upto >= row)
+        wanted = select(table.low, table.high).where(*of).order_by(table.upto).limit(1)
+        low, high = link.execute(wanted).one()
+        return high if low is None else low, high
 
     def act_at(self, row: int) -> Entry | None:
         """The act of a row; None where the row is a weighing or isn't here."""
         table = schema.act.c
-        with reaching(self.reads.connect()) as link:
+        with reaching(self.reads.connect) as link:
             found = link.execute(
                 select(table.line).where(table.book == self.book, table.row == row)
             ).scalar()
+        return read_line(found) if found else None
+
+    def act_of(self, desk: int, request: int, upto: int) -> Entry | None:
+        """The act of a desk and a request among the first `upto` rows. It is looked for backwards:
+        an act is asked again soon."""
+        table = schema.act.c
+        of = (table.book == self.book, table.row <= upto)
+        wanted = select(table.line).where(*of, table.line.contains(f"\t@{desk} {request} "))
+        with reaching(self.reads.connect) as link:
+            found = link.execute(wanted.order_by(table.row.desc()).limit(1)).scalar()
         return read_line(found) if found else None
 
     # ---- alarms
@@ -294,14 +328,14 @@ class Store:
     def alarm(self, moment: int, what: str) -> None:
         """Keeps an alarm, once for each text."""
         table = schema.alarm
-        with reaching(self.engine.begin()) as link:
+        with reaching(self.engine.begin) as link:
             same = (table.c.book == self.book, table.c.what == what)
             if not link.execute(select(func.count()).select_from(table).where(*same)).scalar():
                 link.execute(table.insert().values(book=self.book, moment=moment, what=what))
 
     def analyze(self) -> None:
         """Counts the tables' rows anew for the planner: a fresh table has no statistics."""
-        with reaching(self.engine.begin()) as link:
+        with reaching(self.engine.begin) as link:
             link.execute(text("ANALYZE"))
 
 

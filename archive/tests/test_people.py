@@ -7,7 +7,7 @@ import unittest
 
 from small_book import LINES
 
-from hall_archive.people import Log, Place, read_line, tie, tie_lines
+from hall_archive.people import Log, Place, Tied, read_line, tie, tie_lines
 from hall_archive.rows import Entry, read_text
 
 ENTRIES = {entry.row: entry for entry in read_text(LINES, 0)}
@@ -59,33 +59,52 @@ class Lines(unittest.TestCase):
         self.assertEqual(found and found.reason, "a" * 500)
 
 
+class Acts:
+    """The acts of the small book."""
+
+    def act_at(self, row: int) -> Entry | None:
+        return ENTRIES.get(row)
+
+    def act_of(self, desk: int, request: int, upto: int) -> Entry | None:
+        of = (desk, request)
+        found = [
+            one for row, one in ENTRIES.items() if (one.desk, one.request) == of and row <= upto
+        ]
+        return found[0] if found else None
+
+
 class Ties(unittest.TestCase):
     """Row, desk, request and act have to be one."""
 
-    def fault(self, row: int, request: int, **more: object) -> str:
+    def tied(self, row: int, request: int, **more: object) -> Tied:
         found = read_line(line(row, request, **more), "day")
         assert found
-        return tie(found, ENTRIES.get(row)).fault
+        return tie(found, Acts())
 
     def test_ties(self) -> None:
-        self.assertEqual(self.fault(13, 2), "")
-        self.assertEqual(self.fault(4, 1, act="open_at"), "")
+        first = self.tied(13, 2)
+        self.assertEqual(
+            (first.row, first.hour, first.fault), (13, (1764590000238, 1764590000250), "")
+        )
+        self.assertEqual(self.tied(4, 1, act="open_at").fault, "")
         cases: list[tuple[int, int, dict[str, object]]] = [
             (13, 3, {}),
             (13, 2, {"desk": 102}),
             (13, 2, {"act": "tare"}),
-            (14, 2, {}),
-            (400, 2, {}),
+            (12, 2, {}),
+            (400, 9, {}),
         ]
         for row, request, more in cases:
-            self.assertNotEqual(self.fault(row, request, **more), "")
+            self.assertNotEqual(self.tied(row, request, **more).fault, "")
+
+    def test_a_repeat_is_answered_with_the_length_of_the_book(self) -> None:
+        for row in (14, 15, 400):
+            again = self.tied(row, 2)
+            self.assertEqual((again.row, again.hour, again.fault), (13, None, ""))
 
     def test_rows_that_arent_taken_yet_wait(self) -> None:
-        def act_at(row: int) -> Entry | None:
-            return ENTRIES.get(row)
-
         lines = [line(13, 2), "no line", line(14, 3, act="tare"), line(13, 2)]
-        tied, waiting = tie_lines(lines, "day", 13, act_at)
+        tied, waiting = tie_lines(lines, "day", 13, Acts())
         self.assertEqual([one.row for one in tied], [13, 13])
         self.assertEqual(waiting, [lines[2]])
 
