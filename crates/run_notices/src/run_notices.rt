@@ -189,7 +189,10 @@ impl<E: Eprint + Drop> ChangeNotices for RunNotices<E> {
     }
 
     fn weights_without_batch(&self, lane: u8, count: u32) {
-        let _ = eprintln!(&self.errors; "hall: lane {lane}: {count} weights came without a batch");
+        let weights = if count == 1 { "weight" } else { "weights" };
+        let _ = eprintln!(&self.errors;
+            "hall: lane {lane}: {count} {weights} came without a batch"
+        );
     }
 }
 

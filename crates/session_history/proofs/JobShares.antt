@@ -1,6 +1,5 @@
 -- What each job did, and that all of it is so in the rows that the session leaves.
 use Rattle.std.proofs.Common.{◌≡◌, ℕ, ◌+◌, min, List, [], ◌∷◌, ◌++◌, length, map, All, Option, Some, None, refl, sym, ◌∙◌, ap, arith}
-use Rattle.std.specs.Bool.{⊤}
 use Rattle.std.specs.List.{sum_by}
 use Rattle.std.proofs.lemmas.List.Elements.{All-cons, All-head, All-nil, All-tail}
 use Rattle.device_facts.specs.Prefix.{IsPrefixOf}
@@ -11,7 +10,6 @@ use Rattle.book_words.specs.declared.name.Name.{Name}
 use Rattle.book_words.specs.declared.act.Entry.{Entry}
 use Rattle.book_words.specs.Answers.{IsLegal}
 use Rattle.book_words.specs.Callers.{Known, FAULTS_END}
-use Rattle.book_words.specs.Desks.{Row}
 use Rattle.book_laws.proofs.VerdictLaws.{verdicts_stay}
 use Rattle.book_store.specs.Callers.{own_rows}
 use Rattle.lane_worker.specs.declared.cell.Cell as cell

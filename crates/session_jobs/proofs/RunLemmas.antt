@@ -1,6 +1,5 @@
 -- From the end of a session to what all its jobs come to.
-use Rattle.std.specs.Prelude.{⊤}
-use Rattle.std.proofs.Common.{zero, suc, ◌≡◌, ℕ, ◌+◌, ◌-◌, ◌^◌, ◌<◌, ◌≤◌, min, List, [], ◌∷◌, ◌++◌, length, map, drop, get_or, All, Contains, sum_by, Option, Some, IsSome, true, false}
+use Rattle.std.proofs.Common.{zero, suc, ◌≡◌, ℕ, ◌+◌, ◌<◌, ◌≤◌, min, List, [], ◌∷◌, ◌++◌, length, map, drop, get_or, All, Contains, sum_by, Option, Some, IsSome, true, false}
 use Rattle.std.proofs.Common.{refl, sym, ap, ◌∙◌, subst, arith, append-nil, length-append}
 use Rattle.std.specs.declared.alloc.Global.{Global}
 use Rattle.std.specs.declared.vec.Vec.{Vec}
@@ -26,7 +25,7 @@ use Rattle.office_door.specs.Doors as doors
 use Rattle.office_door.specs.Doors.{FailedSoOften}
 use Rattle.shared_book.specs.declared.session.Session as session
 use Rattle.shared_book.specs.Sessions.{Begins}
-use Rattle.shared_book.specs.Closing.{IsCalm, MakeRows}
+use Rattle.shared_book.specs.Closing.{MakeRows}
 use Rattle.shared_book.specs.Locked.{IsNewSeat}
 use Rattle.shared_book.specs.Passes.{IsPassOf, HasNoted, entries_in, known_of, room_of, row_of}
 use Rattle.turn_pass.specs.History.{BookState, PassState, TurnState, opening, newcomer as new_pass}

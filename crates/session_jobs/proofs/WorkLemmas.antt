@@ -1,5 +1,5 @@
 -- A work that was done, as it looks beside other callers.
-use Rattle.std.proofs.Common.{◌≡◌, ◌⊎◌, inl, inr, ⊎_elim, ℕ, ◌+◌, ◌<◌, ◌≤◌, min, true, false, List, [], ◌∷◌, ◌++◌, length, Option, Some, None, Err, refl, ◌∙◌, ap, arith}
+use Rattle.std.proofs.Common.{◌≡◌, inl, inr, ⊎_elim, ℕ, ◌+◌, ◌<◌, ◌≤◌, min, true, false, List, [], ◌∷◌, ◌++◌, length, Option, Some, None, Err, refl, ◌∙◌, ap, arith}
 use Rattle.disk_core.specs.declared.source.Source as source
 use Rattle.disk_core.specs.declared.door.Door as door
 use Rattle.book_words.specs.declared.act.Ask.{Ask}

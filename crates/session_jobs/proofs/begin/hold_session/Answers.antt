@@ -1,12 +1,12 @@
-use Rattle.std.proofs.Common.{◌≡◌, ◌+◌, [], List, All, length, map, refl, sym, ap, ◌∙◌, subst, arith}
+use Rattle.std.proofs.Common.{List, All, map, refl, sym, ap, ◌∙◌, subst, arith}
 use Rattle.std.proofs.lemmas.List.{length-map}
 use Rattle.book_words.specs.declared.act.Entry.{Entry}
 use Rattle.shared_book.proofs.SessionLemmas.{begins_named}
 use Rattle.shared_book.specs.Sessions.{session_of}
-use Rattle.turn_pass.specs.History.{BookState, opening}
+use Rattle.turn_pass.specs.History.{BookState}
 use Rattle.session_jobs.specs.declared.job.Job.{Job}
 use Rattle.session_jobs.specs.Ends.{HasEnded}
-use Rattle.session_jobs.specs.Jobs.{IsReady, new_job, with_passes}
+use Rattle.session_jobs.specs.Jobs.{IsReady, with_passes}
 use Rattle.session_jobs.specs.Works.{number_of, lane_site, door_site}
 use Rattle.session_jobs.proofs.RunLemmas.{all_ready, new_seat, session_ends, unbegun_ends}
 use Rattle.session_jobs.proofs.begin.hold_session.Goals as goal

@@ -1,4 +1,4 @@
-use Rattle.std.proofs.Common.{◌≡◌, ◌++◌, ◌∷◌, List, map, subst, sym, ap, ◌∙◌, All, ◌≢◌, ℕ}
+use Rattle.std.proofs.Common.{◌≡◌, ◌++◌, ◌∷◌, List, map, subst, sym, All, ◌≢◌, ℕ}
 use Rattle.std.specs.Vec.Iter.{into_iter_items}
 use Rattle.session_jobs.specs.declared.work.Work.{Work}
 use Rattle.session_jobs.specs.Works.{number_of}

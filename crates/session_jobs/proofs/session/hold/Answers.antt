@@ -1,11 +1,10 @@
-use Rattle.std.proofs.Common.{◌≡◌, ℕ, ◌+◌, ◌++◌, List, All, IsSome, Some, Option, length, map, drop, take, sym, ap, ◌∙◌, subst, arith, vec_len}
+use Rattle.std.proofs.Common.{◌≡◌, ℕ, ◌++◌, List, All, IsSome, Some, length, map, drop, take, sym, ap, ◌∙◌, subst, arith}
 use Rattle.std.specs.List.{AllZip}
 use Rattle.std.proofs.Math.Seq.{take-append_seam}
 use Rattle.std.proofs.lemmas.List.Elements.{length_all_zip}
 use Rattle.book_words.specs.declared.act.Entry.{Entry}
 use Rattle.turn_pass.specs.History.{PassState}
 use Rattle.session_jobs.specs.declared.job.Job.{Job}
-use Rattle.session_jobs.specs.declared.work.Work.{Work}
 use Rattle.session_jobs.specs.Jobs.{IsRun}
 use Rattle.session_jobs.specs.Works.{lane_site, door_site}
 use Rattle.session_jobs.proofs.RunLemmas.{all_seated, all_passes, all_many}

@@ -2,7 +2,7 @@ use denote.Param.Send.{sendable}
 use Rattle.std.proofs.Common.{slice_index_or, subst}
 use Rattle.std.proofs.Crossing as heap
 use Rattle.shared_book.proofs.Crossing.{shared_sync}
-use Rattle.session_jobs.specs.Jobs.{IsReady, IsRun}
+use Rattle.session_jobs.specs.Jobs.{IsRun}
 use Rattle.session_jobs.specs.Works.{lane_site, door_site}
 use Rattle.session_jobs.proofs.RunLemmas.{zip_all}
 use Rattle.session_jobs.proofs.session.run_all.Goals as goal
