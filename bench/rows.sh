@@ -24,4 +24,4 @@ if [ -n "${BEFORE:-}" ]; then
     CRATES=$BEFORE/crates
     built before
 fi
-python3 -B "$here/rows.py" "$folder" "${2:-2000}" "$programs"/journal-*
+python3 -B "$here/added_rows.py" "$folder" "${2:-2000}" "$programs"/journal-*

@@ -17,11 +17,11 @@ from operation_room import (
 LANES = 2
 # Seconds between two weights of a lane, and how long a hall serves before it is ended: over pipes,
 # and over ports in turn, where a scale takes a while to find the new hall.
-EVERY = 0.05
+EVERY = 0.1
 OVER_PIPES, OVER_PORTS = (0.4,), (0.4, 1.0, 2.0)
-# How many packs a lane has for each restart: more than are weighed on a machine however busy, so
-# that the scales weigh until the last restart.
-PACKS = 1000
+# How many packs a lane has: more than are weighed until the last restart, and no more than the
+# 10 000 that a batch takes.
+PACKS = 9_900
 
 
 class Restarts(NamedTuple):
@@ -107,7 +107,7 @@ def restarts_over_pipes(place: Place, times: int) -> None:
     text = plan_of(["A", "B"])
     first = Service(place, text, LANES=LANES)
     first.wait_until_served()
-    given = [weights(lane, times * PACKS) for lane in range(1, LANES + 1)]
+    given = [weights(lane, PACKS) for lane in range(1, LANES + 1)]
     scales = [PipeScale(place.run, lane, given[lane - 1], EVERY) for lane in range(1, LANES + 1)]
     for scale in scales:
         scale.start()
@@ -133,7 +133,7 @@ def restarts_over_ports(place: Place, times: int) -> None:
     text = plan_of(["A", "B"])
     remote = place.port + 4
     tunnel = Tunnel(remote + 1)
-    given = [weights(lane, times * PACKS) for lane in range(1, LANES + 1)]
+    given = [weights(lane, PACKS) for lane in range(1, LANES + 1)]
     book = ("--book", f"http://127.0.0.1:{place.port}", "--lane", "2")
     scales = [NetworkScale(place.folder, lane, port, given[lane - 1], EVERY, words)
               for lane, port, words in ((1, remote, ()), (2, tunnel.port, book))]  # fmt: skip
