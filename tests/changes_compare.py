@@ -95,12 +95,21 @@ def compare_record(lane: ChangingLane, lines: list[Line], is_whole: bool) -> int
     dropped = len(lane.weights) - len(weights)
     need(dropped == 0 or not is_whole, f"lane {lane.number}: {dropped} weights weren't said")
     said = {line.what: line.at for line in lines}
-    names = {line.what.removeprefix("batch ") for line in lines if line.what.startswith("batch ")}
-    need({batch.what for batch in lane.batches} <= names, f"lane {lane.number}: a batch is missing")
     moments = [weight.done for weight in lane.weights]
     for batch in lane.batches:
-        compare_place(lane, batch, lines, said, moments)
+        if not was_overtaken(batch, lines):
+            compare_place(lane, batch, lines, said, moments)
     return dropped
+
+
+def was_overtaken(batch: Said, lines: list[Line]) -> bool:
+    """Whether a batch was said while nobody read, and another one before the next reader came: that
+    one alone is said then."""
+    if any(line.what == f"batch {batch.what}" for line in lines):
+        return False
+    gaps = [(before.at, line.at) for before, line in zip(lines, lines[1:])
+            if line.what.startswith("# ")]  # fmt: skip
+    return any(left - NEAR <= batch.began and batch.done <= came + NEAR for left, came in gaps)
 
 
 def compare_place(lane: ChangingLane, batch: Said, lines: list[Line], said: dict[str, float],
