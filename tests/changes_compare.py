@@ -16,8 +16,11 @@ from changing_lane import ChangingLane, Said
 from clients import need
 from rows import Piles, Row
 
-# Seconds by which a device's line may come before or behind another's that is said later.
-NEAR = 0.2
+# Seconds by which a device's line may come before or behind another's that is said later, on a
+# machine that is hardly served.
+NEAR = 2.0
+# For how long at most nobody reads, in seconds.
+AWAY = 10.0
 
 
 class Line(NamedTuple):
@@ -95,11 +98,25 @@ def compare_record(lane: ChangingLane, lines: list[Line], is_whole: bool) -> int
     dropped = len(lane.weights) - len(weights)
     need(dropped == 0 or not is_whole, f"lane {lane.number}: {dropped} weights weren't said")
     said = {line.what: line.at for line in lines}
+    compare_first(lane, lines)
     moments = [weight.done for weight in lane.weights]
     for batch in lane.batches:
         if not was_overtaken(batch, lines):
             compare_place(lane, batch, lines, said, moments)
     return dropped
+
+
+def compare_first(lane: ChangingLane, lines: list[Line]) -> None:
+    """Each reader heard the batch first that was said last: by the adapter, or meanwhile."""
+    newest = ""
+    for line, then in zip(lines, lines[1:]):
+        if line.what.startswith("batch "):
+            newest = line.what
+        elif line.what.startswith("# ") and newest:
+            meanwhile = [f"batch {batch.what}" for batch in lane.batches
+                         if batch.began < then.at and line.at - NEAR < batch.done + AWAY]  # fmt: skip
+            need(then.what == newest or then.what in meanwhile,
+                 f"lane {lane.number}: a reader heard {then.what} first, and not {newest}")  # fmt: skip
 
 
 def was_overtaken(batch: Said, lines: list[Line]) -> bool:
