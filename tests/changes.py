@@ -37,6 +37,8 @@ STILL, PATIENCE = 2.0, 300.0
 # What is promised: seconds from a change to the first pack behind it, and how far the other lanes'
 # rate may go from that before it.
 MOST_CHANGE, MOST_SLOWER = 0.05, 0.05
+# Seconds behind the beginning of a hall until what waited for it is weighed.
+CALM = 4.0
 # Seconds before and behind a change in which the other lanes are counted.
 COUNTED = 0.1
 
@@ -217,8 +219,8 @@ class Compared:
         return slow + [odd] * (abs(share - 1) > MOST_SLOWER)
 
     def is_calm(self, at: float) -> bool:
-        """Whether no hall was killed near a moment."""
-        return all(not -1 < at - kill < AWAY + 2 for kill in self.day.kills)
+        """Whether no hall was killed near a moment: what waited for the next one comes before."""
+        return all(not -1 < at - kill < AWAY + CALM for kill in self.day.kills)
 
     def tell_times(self, way: str) -> float:
         """How long a change takes, from its line to the first pack that its gate let out; the

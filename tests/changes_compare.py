@@ -16,8 +16,11 @@ from changing_lane import ChangingLane, Said
 from clients import need
 from rows import Piles, Row
 
-# Seconds by which a device's line may come before or behind another's that is said later.
-NEAR = 0.2
+# Seconds by which a device's line may come before or behind another's that is said later, on a
+# machine that is hardly served.
+NEAR = 2.0
+# For how long at most nobody reads, in seconds.
+AWAY = 10.0
 
 
 class Line(NamedTuple):
@@ -95,12 +98,35 @@ def compare_record(lane: ChangingLane, lines: list[Line], is_whole: bool) -> int
     dropped = len(lane.weights) - len(weights)
     need(dropped == 0 or not is_whole, f"lane {lane.number}: {dropped} weights weren't said")
     said = {line.what: line.at for line in lines}
-    names = {line.what.removeprefix("batch ") for line in lines if line.what.startswith("batch ")}
-    need({batch.what for batch in lane.batches} <= names, f"lane {lane.number}: a batch is missing")
+    compare_first(lane, lines)
     moments = [weight.done for weight in lane.weights]
     for batch in lane.batches:
-        compare_place(lane, batch, lines, said, moments)
+        if not was_overtaken(batch, lines):
+            compare_place(lane, batch, lines, said, moments)
     return dropped
+
+
+def compare_first(lane: ChangingLane, lines: list[Line]) -> None:
+    """Each reader heard the batch first that was said last: by the adapter, or meanwhile."""
+    newest = ""
+    for line, then in zip(lines, lines[1:]):
+        if line.what.startswith("batch "):
+            newest = line.what
+        elif line.what.startswith("# ") and newest:
+            meanwhile = [f"batch {batch.what}" for batch in lane.batches
+                         if batch.began < then.at and line.at - NEAR < batch.done + AWAY]  # fmt: skip
+            need(then.what == newest or then.what in meanwhile,
+                 f"lane {lane.number}: a reader heard {then.what} first, and not {newest}")  # fmt: skip
+
+
+def was_overtaken(batch: Said, lines: list[Line]) -> bool:
+    """Whether a batch was said while nobody read, and another one before the next reader came: that
+    one alone is said then."""
+    if any(line.what == f"batch {batch.what}" for line in lines):
+        return False
+    gaps = [(before.at, line.at) for before, line in zip(lines, lines[1:])
+            if line.what.startswith("# ")]  # fmt: skip
+    return any(left - NEAR <= batch.began and batch.done <= came + NEAR for left, came in gaps)
 
 
 def compare_place(lane: ChangingLane, batch: Said, lines: list[Line], said: dict[str, float],
