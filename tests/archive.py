@@ -132,9 +132,9 @@ def say(text: str) -> None:
     print(f"archive: {text}", flush=True)
 
 
-def quiet(room: Room, work: Work, checked: Checked) -> None:
+def quiet(room: Room, work: Work, checked: Checked) -> str:
     """Nothing is killed: hours are close, in one stretch at least in which the machine did all that
-    was asked of it in time."""
+    was asked of it in time. Says where they are in none, so that the rest is tried too."""
     work.begin()
     room.follower.begin()
     wait(lambda: checked.taken() > 3, "the beginning is taken")
@@ -157,8 +157,8 @@ def quiet(room: Room, work: Work, checked: Checked) -> None:
             f"{last - first} rows in {QUIET} s, hours beyond what was known: 99 % at most"
             f" {of[len(of) * 99 // 100]} ms, all {of[-1]}; {share:.1f} % of a processor"
         )
-    need(min(most) <= CLOSE, f"in each stretch hours are off, by {most} ms")
     say(f"{len(work.acts)} acts with their persons; {said}")
+    return f"in each stretch hours are off, by {most} ms" if min(most) > CLOSE else ""
 
 
 def killed(room: Room, work: Work, checked: Checked, kills: int, postgres: Any) -> None:
@@ -322,14 +322,14 @@ def end(room: Room, work: Work) -> None:
         work.hall.kill()
 
 
-def over(kind: str, program: str, front: Front, folder: str, kills: int, seed: str) -> None:
-    """All of it over one kind of database."""
+def over(kind: str, program: str, front: Front, folder: str, kills: int, seed: str) -> str:
+    """All of it over one kind of database; where hours are off, by how much."""
     postgres = Postgres(folder) if kind == "postgresql" else None
     url = postgres.url if postgres else f"sqlite:///{folder}/archive.db"
     say(f"over {kind}")
     room, work, checked = furnish(program, front, f"{folder}/{kind}", url, f"{seed} {kind}")
     try:
-        quiet(room, work, checked)
+        off = quiet(room, work, checked)
         killed(room, work, checked, kills, postgres)
         if postgres:
             loaded(room, work, checked, postgres)
@@ -341,6 +341,7 @@ def over(kind: str, program: str, front: Front, folder: str, kills: int, seed: s
         witnessed(room, checked)
         pages(room, work, front)
         say(spoiled(room, work, checked.store))
+        return off
     except (Wrong, AssertionError):
         print(room.follower.said()[-3000:], file=sys.stderr)
         raise
@@ -357,12 +358,14 @@ def main() -> None:
     front.start()
     began = now()
     try:
-        over("sqlite", program, front, folder, kills // 2, seed)
-        over("postgresql", program, front, folder, kills - kills // 2, seed)
+        off = over("sqlite", program, front, folder, kills // 2, seed)
+        off += over("postgresql", program, front, folder, kills - kills // 2, seed)
         full(program, front, f"{folder}/full", seed)
     finally:
         front.stop()
+    need(not off, off)
     say(f"seed {seed}, {(now() - began) // 1000} s")
 
 
-main()
+if __name__ == "__main__":
+    main()

@@ -11,6 +11,7 @@ import { icon, loadStyles, make, meter, put, shape, whenSized } from "./page.js"
 import { keepText, readText } from "./store.js";
 import { lanes as askPlan, list as askList } from "./office.js";
 import { addNames } from "./names.js";
+import { evidenceAlarms } from "./evidenceshown.js";
 import { forecastOf } from "./forecast.js";
 import { forecastWords } from "./forecastwords.js";
 import { laneWords, settings } from "./settings.js";
@@ -389,7 +390,8 @@ async function drawNew() {
   const book = leftOf(rows);
   putFoot(book, rows);
   const lanes = [...hall.lanes.values()].map(laneState);
-  place.bar.draw(alarmsOf({ book, batches: views, lanes }), isSounding());
+  const alarms = alarmsOf({ book, batches: views, lanes });
+  place.bar.draw([...alarms, ...evidenceAlarms()], isSounding());
 }
 
 // A lane of the plan that stands without ever having weighed is shown too.

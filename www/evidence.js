@@ -5,6 +5,7 @@
 import { addWords, say } from "./words.js";
 import { FIELDS, KINDS, readEntry } from "./entered.js";
 import { deskChoice } from "./mydesk.js";
+import { dueWords } from "./evidenceshown.js";
 import { grams, spellDay } from "./evidencewords.js";
 import { isReady, makeSaid, sendAct, tell } from "./acts.js";
 import { make, notice, table, tag } from "./page.js";
@@ -119,7 +120,7 @@ export async function build(section) {
   const show = async () => {
     newest.replaceChildren(newestTable((await ask("newest")).said));
     const { evidence, books } = (await ask("alarms")).said;
-    const said = [...evidence, ...books.map(({ book, what }) => `${book}: ${what}`)];
+    const said = [...evidence.map(dueWords), ...books.map(({ book, what }) => `${book}: ${what}`)];
     due.replaceChildren(...(said.length ? [notice("alarm", "warn", say("overdue"),
       make("ul", {}, said.map((text) => make("li", {}, text))))] : []));
   };

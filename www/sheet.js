@@ -11,6 +11,7 @@ import { count, day, fixed, grams, percent, quantity } from "./numbers.js";
 import { icon, loadStyles, make, notice, shape } from "./page.js";
 import { BatchPage } from "./loader.js";
 import { drawChart } from "./chart.js";
+import { evidenceOf } from "./evidenceshown.js";
 import { failsOf } from "./forecast.js";
 import { measuredOf } from "./measured.js";
 import { readPaper } from "./paper.js";
@@ -91,8 +92,10 @@ addWords({
       + "hall audit --book BUCH --rows {row}"],
   proveIt: ["To check it: hall paper --batch {batch}, then prove.",
     "Zum Prüfen: hall paper --batch {batch}, dann prove."],
-  noArchive: ["Who and when, and the evidence on tares and scales, need the archive of the hall.",
+  needArchive: ["Who and when, and the evidence on tares and scales, need the archive of the hall.",
     "Wer und wann, und die Nachweise zu Taren und Waagen, brauchen das Archiv der Halle."],
+  byArchive: ["Who and when: hall-archive story BOOK {batch}.",
+    "Wer und wann: hall-archive story BUCH {batch}."],
   signed: ["Checked by, date", "Geprüft von, am"],
   printed: ["Printed {day} {time} from row {row} of the book.",
     "Gedruckt {day} {time} aus Zeile {row} des Buchs."],
@@ -266,19 +269,20 @@ function headOf(sheet) {
       + word(sheet.state))), verdictBox(sheet));
 }
 
-function footOf(sheet, { paper }) {
+function footOf(sheet, { paper }, evidence) {
   const now = Date.now();
   const date = new Date(now).toLocaleDateString("sv");
   const closing = paper ? `${say("closedAt", { row: paper.row })}. ` : "";
   return make("footer", { className: "sh-foot" },
     make("p", {}, `${say("rounded")} ${sheet.verdict ? "" : say("notClosed")}`),
-    make("p", {}, `${closing}${sheet.verdict ? say("proveIt", sheet) : ""} ${say("noArchive")}`),
+    make("p", {}, `${closing}${sheet.verdict ? say("proveIt", sheet) : ""} `
+      + say(evidence ? "byArchive" : "needArchive", sheet)),
     make("div", { className: "sh-sign" },
       make("p", {}, say("printed", { day: day(date), time: time(now), row: count(sheet.rows) })),
       make("p", { className: "sign" }, say("signed"))));
 }
 
-function sheetOf(sheet, packs, samples) {
+function sheetOf(sheet, packs, samples, evidence) {
   const test = testOf(sheet, samples);
   const { plan } = test;
   const { t1 } = limitsOf(sheet);
@@ -295,7 +299,7 @@ function sheetOf(sheet, packs, samples) {
       make("div", { className: "sh-chart" }, chart), hasWeights ? [
         weightTable("first", samples, about), weightTable("second", samples, about),
         make("p", { className: "sh-note" }, say("lightMark", { t1: grams(t1) }))] : [],
-      outList(packs), footOf(sheet, samples))];
+      outList(packs), evidence ?? [], footOf(sheet, samples, evidence))];
 }
 
 // A field for the paper of a batch, where the front serves none.
@@ -315,13 +319,14 @@ async function draw(place, sheet, packs) {
   const text = sheet.verdict ? await office.paper(sheet.batch) : "";
   const served = readPaper(text);
   const paper = served?.batch === sheet.batch ? served : null;
+  const evidence = await evidenceOf(sheet);
   const printer = make("button", { type: "button" }, icon("print"), say("print"));
   printer.addEventListener("click", () => print());
   const put = (samples) => place.replaceChildren(
     make("p", { className: "no-print sheet-bar" }, printer),
     sheet.verdict && sheet.first && !samples.paper
       ? paperField(sheet, (chosen) => put(fromPaper(chosen, packs))) : "",
-    ...sheetOf(sheet, packs, samples));
+    ...sheetOf(sheet, packs, samples, evidence));
   put(paper ? fromPaper(paper, packs) : await fromHere(sheet, packs));
 }
 

@@ -199,12 +199,23 @@ def first_broken(records: list[Record]) -> int | None:
     return None
 
 
-def alarms(newest: list[Record], now: int, days: dict[str, int]) -> list[str]:
+class Alarm(NamedTuple):
+    """Evidence that needs somebody: `why` is `old`, where it is older than `days`, or its result
+    where that isn't good."""
+
+    kind: str
+    subject: str
+    why: str
+    days: int
+
+
+def alarms(newest: list[Record], now: int, days: dict[str, int]) -> list[Alarm]:
     """What of the newest of each is too old, or isn't good."""
     said = []
     for one in newest:
+        most = days[one.kind]
         if one.result != "good":
-            said.append(f"{one.kind} of {one.subject}: {one.result}")
-        elif now - one.moment > days[one.kind] * DAY:
-            said.append(f"{one.kind} of {one.subject}: older than {days[one.kind]} days")
+            said.append(Alarm(one.kind, one.subject, one.result, most))
+        elif now - one.moment > most * DAY:
+            said.append(Alarm(one.kind, one.subject, "old", most))
     return said

@@ -53,13 +53,13 @@ def open_engine(url: Any, writes: bool = False) -> Any:
         )
         begin = "BEGIN IMMEDIATE" if writes else "BEGIN"
 
-        @event.listens_for(engine, "connect")  # type: ignore[misc]
+        @event.listens_for(engine, "connect")  # type: ignore[misc, no-untyped-call]
         def connected(link: Any, _: Any) -> None:
             link.isolation_level = None
             for pragma in ("journal_mode = WAL", "synchronous = FULL", f"busy_timeout = {BUSY}000"):
                 link.execute(f"PRAGMA {pragma}")
 
-        @event.listens_for(engine, "begin")  # type: ignore[misc]
+        @event.listens_for(engine, "begin")  # type: ignore[misc, no-untyped-call]
         def began(link: Any) -> None:
             link.exec_driver_sql(begin)
 

@@ -171,7 +171,8 @@ def add_evidence(app: Any, records: Records, halls: Halls, days: dict[str, int])
         hall = halls.of(x_book)
         now = time.time_ns() // 1_000_000
         said = evidence.alarms(records.newest(hall), now, days)
-        return {"evidence": said, "books": Search(records.engine).alarms(hall)}
+        due = [one._asdict() for one in said]
+        return {"evidence": due, "books": Search(records.engine).alarms(hall)}
 
     @app.post("/evidence/{kind}/{subject}", status_code=201)  # type: ignore[misc]
     def add(

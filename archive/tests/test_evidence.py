@@ -5,7 +5,15 @@ import unittest
 from typing import Any
 
 from hall_archive import evidence
-from hall_archive.evidence import BadEvidence, Record, alarms, chained, evaluate, first_broken
+from hall_archive.evidence import (
+    Alarm,
+    BadEvidence,
+    Record,
+    alarms,
+    chained,
+    evaluate,
+    first_broken,
+)
 
 DAY = 86_400_000
 
@@ -110,6 +118,6 @@ class Chain(unittest.TestCase):
         days = {"scale": 1, "tare": 90}
         records = self.records()
         self.assertEqual(alarms(records, DAY, days), [])
-        self.assertEqual(alarms(records, DAY + 1, days), ["scale of 0: older than 1 days"])
+        self.assertEqual(alarms(records, DAY + 1, days), [Alarm("scale", "0", "old", 1)])
         bad = records[1]._replace(body='{"result": "more"}')
-        self.assertEqual(alarms([bad], 0, days), ["tare of 1: more"])
+        self.assertEqual(alarms([bad], 0, days), [Alarm("tare", "1", "more", 90)])
