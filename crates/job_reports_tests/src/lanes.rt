@@ -39,7 +39,12 @@ const ROWS: [Row; 12] = [
     (1, 3, LaneStop::DiskFault, b"lane 1 opened 3 disk\n"),
     (0, 0, LaneStop::NoMemory, b"lane 0 opened 0 memory\n"),
     (1, 4, LaneStop::Turns, b"lane 1 opened 4 turns\n"),
-    (4, 9, LaneStop::Idle { weights: 1 }, b"lane 4 opened 9 idle 1\n"),
+    (
+        4,
+        9,
+        LaneStop::Idle { weights: 1 },
+        b"lane 4 opened 9 idle 1\n",
+    ),
     (
         4,
         9,

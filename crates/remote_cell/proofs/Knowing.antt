@@ -54,7 +54,7 @@ lines_more b c d texts is =
 
 given_step : (b : Bool) (p : List Connection) (c d : Connection) (given : List Item)
     → line_items (before b p) (connection_lines b d)
-        ≡ line_items (before b p) (connection_lines b c) ++ given
+    ≡ line_items (before b p) (connection_lines b c) ++ given
     → given_items b (p ++ d ∷ []) ≡ given_items b (p ++ c ∷ []) ++ given
 given_step b p c d given is =
     given_more b p d
@@ -75,7 +75,7 @@ taken_step : (b : Bool) (now : Bool) (p : List Connection) (c d : Connection) (w
     (given : List Item) (texts : List (List ℕ)) (turns faults : ℕ) → turns ≡ length texts
     → whole_lines d.taken ≡ whole_lines c.taken ++ texts
     → line_items (before b p) (connection_lines b d)
-        ≡ line_items (before b p) (connection_lines b c) ++ given
+    ≡ line_items (before b p) (connection_lines b c) ++ given
     → left_undone b now (all_of p (Some d) w) ≤ undone b 0 p + faults
     → length p + faults ≤ length (those_left now (all_of p (Some d) w))
     → HasTaken b true now given turns faults (all_of p (Some c) w) (all_of p (Some d) w)
@@ -138,10 +138,10 @@ knows_same : (h k : Hearing) (p : List Connection) (c d : Connection) (w : List 
     → k.batches ≡ h.batches → whole_lines d.taken ≡ whole_lines c.taken
     → k.receiver ≡ h.receiver → (k.over ≡ None → (k.lines ≡ h.lines) × (h.over ≡ None))
     → Knows h (all_of p (Some c) w) → IsPresent k (before h.batches p) d
-        → Knows k (all_of p (Some d) w)
+    → Knows k (all_of p (Some d) w)
 knows_same h k p c d w takes same taken on knows present =
     let step = same_step h.batches true p c d w 0 same (kept_one h.batches p d w 0)
-        (kept_none p d w) in
+    (kept_none p d w) in
     let given : given_items h.batches (p ++ d ∷ []) ≡ given_items h.batches (p ++ c ∷ []) =
     step.given_is ∙ append-nil (given_items h.batches (p ++ c ∷ [])) in
     let texts : texts_on (p ++ d ∷ []) ≡ texts_on (p ++ c ∷ []) =
@@ -174,7 +174,7 @@ written_good b bytes c good = record { lines = good.lines; part = good.part }
 
 whole_written : (h : Hearing) (taken : ℕ) (c : Connection) → h.owes ≡ true → h.connected ≡ true
     → IsPresent h taken c → c.written ++ acknowledgement h.receiver
-        ≡ connection_acknowledgements h.batches taken c
+    ≡ connection_acknowledgements h.batches taken c
 whole_written h taken c owes connected on =
     ap (λ (b : Bool). c.written ++ cond b (acknowledgement h.receiver) []) (sym owes)
     ∙ on.answered connected
@@ -203,7 +203,7 @@ writes h p (Some c) w bytes (Ok done) owes connected sent knows =
     let d : Connection = add_written bytes c in
     let whole : c.written ++ bytes ≡ connection_acknowledgements h.batches (before h.batches p) c =
     ap (λ (l : List ℕ). c.written ++ l) sent
-        ∙ whole_written h (before h.batches p) c owes connected on in (
+    ∙ whole_written h (before h.batches p) c owes connected on in (
       knows_same h (paid h true) p c d w refl refl refl (λ is. (refl, is)) knows (record {
         begins = ([], sym whole ∙ sym (append-nil (c.written ++ bytes)));
         answered = λ is. append-nil (c.written ++ bytes) ∙ whole;
@@ -346,7 +346,7 @@ pub too_long : (h : Hearing) (p : List Connection) (present : Option Connection)
     → Knows (spoilt h) (with_taken line (all_of p present w))
     × Tells h.batches h.receiver (bad_behind h) (with_taken line (all_of p present w))
     × HasTaken h.batches true true [] 0 0 (all_of p present w) (with_taken line
-        (all_of p present w))
+    (all_of p present w))
 too_long h p None w line over connected plain long knows =
     never h.connected connected knows.present
 too_long h p (Some c) w line over connected plain long knows =
@@ -440,7 +440,7 @@ tells_line : (h : Hearing) (number : ℕ) (item : Item) (how : hears.Heard) (tex
     → line_said h.batches text ≡ Some (number, item)
     → next_line h.lines ≡ numbered (length (texts_on (served all)))
     → MayTell h.batches (heard_line h how item).receiver (item_given
-        (next_line h.lines) how item) all
+    (next_line h.lines) how item) all
 tells_line h number (Gross gross) Take text all how ends is line = record {
   text = text;
   ends = ends;
@@ -481,7 +481,7 @@ says_line : (h : Hearing) (p : List Connection) (c : Connection) (w : List (List
     → (k : Hearing) → k ≡ heard_line h (heard h.receiver number) item
     → Knows k (all_of p (Some (add_taken (text ++ 10 ∷ []) c)) w)
     × HasTaken h.batches true true (heard_items (heard h.receiver number) item) 1 0 (all_of p
-        (Some c) w)
+    (Some c) w)
     (all_of p (Some (add_taken (text ++ 10 ∷ []) c)) w)
 says_line h p c w text number item said over owes connected plain few knows k is =
     let on : IsPresent h (before h.batches p) c = knows.present in
@@ -495,24 +495,24 @@ says_line h p c w text number item said over owes connected plain few knows k is
     lines_more h.batches c d (text ∷ []) texts
     ∙ ap (λ (o : Option Line). connection_lines h.batches c ++ cons_option o []) said in
     let taken : h.receiver
-        ≡ before h.batches p + length (line_items (before h.batches p)
-        (connection_lines h.batches c)) =
+    ≡ before h.batches p + length (line_items (before h.batches p)
+    (connection_lines h.batches c)) =
     knows.taken_is ∙ ap length (given_more h.batches p c)
     ∙ length-append (given_items h.batches p) (line_items (before h.batches p)
-        (connection_lines h.batches c)) in
+    (connection_lines h.batches c)) in
     let given : line_items (before h.batches p) (connection_lines h.batches d)
     ≡ line_items (before h.batches p) (connection_lines h.batches c) ++ heard_items how item =
     ap (line_items (before h.batches p)) lines
     ∙ one_given (before h.batches p) h.receiver (connection_lines h.batches c) line taken in
     let answers : connection_acknowledgements h.batches (before h.batches p) d
-        ≡ connection_acknowledgements h.batches (before h.batches p) c
+    ≡ connection_acknowledgements h.batches (before h.batches p) c
     ++ flat_map acknowledgement (acknowledgements how (h.receiver + length
-        (heard_items how item))) =
+    (heard_items how item))) =
     ap (line_acknowledgements (before h.batches p)) lines
     ∙ one_acknowledged (before h.batches p) h.receiver (connection_lines h.batches c) line taken in
     let step : HasTaken h.batches true true (heard_items how item) 1 0 (all_of p (Some c) w)
     (all_of p (Some d) w) = taken_step h.batches true p c d w (heard_items how item)
-        (text ∷ []) 1 0 refl texts
+    (text ∷ []) 1 0 refl texts
     given (kept_one h.batches p d w 0) (kept_none p d w) in
     let behind : owed k ≡ flat_map acknowledgement (acknowledgements how
     (h.receiver + length (heard_items how item))) = ap owed is ∙ known.owes in
@@ -520,7 +520,7 @@ says_line h p c w text number item said over owes connected plain few knows k is
     let whole : c.written ++ owed k ≡ connection_acknowledgements h.batches (before h.batches p) d =
     ap (λ (l : List ℕ). l ++ owed k) (unpaid h (before h.batches p) c owes connected on)
     ∙ ap (λ (l : List ℕ). connection_acknowledgements h.batches (before h.batches p) c ++ l) behind
-        ∙ sym answers in (
+    ∙ sym answers in (
       subst (λ (x : Hearing). Knows x (all_of p (Some d) w)) (taking_so k h takes) (record {
         taken_is = ap (λ (x : Hearing). x.receiver) is ∙ known.taken
             ∙ ap (λ (n : ℕ). n + length (heard_items how item)) knows.taken_is
@@ -569,11 +569,11 @@ says_nothing h p c w text said over connected plain knows =
     ap (line_items (before h.batches p)) lines
     ∙ sym (append-nil (line_items (before h.batches p) (connection_lines h.batches c))) in
     let answers : connection_acknowledgements h.batches (before h.batches p) d
-        ≡ connection_acknowledgements h.batches (before h.batches p) c =
+    ≡ connection_acknowledgements h.batches (before h.batches p) c =
     ap (line_acknowledgements (before h.batches p)) lines in
     let step : HasTaken h.batches true true [] 1 0 (all_of p (Some c) w) (all_of p (Some d) w) =
     taken_step h.batches true p c d w [] (text ∷ []) 1 0 refl texts given
-        (kept_one h.batches p d w 0) (kept_none p d w) in (
+    (kept_one h.batches p d w 0) (kept_none p d w) in (
       record {
         taken_is = knows.taken_is
             ∙ ap length (sym (step.given_is ∙ append-nil (given_items h.batches (p ++ c ∷ []))));
@@ -680,7 +680,7 @@ joins h all bytes others waits over owes knows next is =
     is ∙ ap (λ (ws : List (List ℕ)).
     next_connections (record { past = all.past; present = all.present; waiting = ws })) waits in
     let given : given_items h.batches (s ++ new ∷ []) ≡ given_items h.batches s
-        ++ [] = given_more h.batches s new in
+    ++ [] = given_more h.batches s new in
     let texts : texts_on (s ++ new ∷ []) ≡ texts_on s ++ [] = texts_more s new in
     let nothing : owed (joining h) ≡ [] =
     ap (λ (b : Bool). cond b (acknowledgement h.receiver) []) owes in
@@ -697,8 +697,11 @@ joins h all bytes others waits over owes knows next is =
         present = record {
           begins = ([], refl);
           answered = λ still. nothing;
-          good = λ still. record { lines = λ k x within. absurd (omega
-              (arith, within)); part = omega arith };
+          good = λ still. record {
+            lines = λ k x within. absurd (omega
+                (arith, within));
+            part = omega arith;
+          };
           at_line = λ still yes_is. refl;
         };
       },

@@ -118,7 +118,7 @@ answered_behind b n (x ∷ p) c all begins = (
   all.0,
   answered_behind b (count n (connection_lines b x)) p c all.1
       (subst (λ (k : ℕ). IsPrefixOf c.written (connection_acknowledgements b k c))
-          (count_first b n x p) begins),
+      (count_first b n x p) begins),
 )
 
 pub answered_more : (b : Bool) (p : List Connection) (c : Connection) → AreAnswered b 0 p
@@ -127,7 +127,7 @@ pub answered_more : (b : Bool) (p : List Connection) (c : Connection) → AreAns
 answered_more b p c all begins =
     answered_behind b 0 p c all
     (subst (λ (k : ℕ). IsPrefixOf c.written (connection_acknowledgements b k c)) (sym
-        (from_none b p)) begins)
+    (from_none b p)) begins)
 
 abbrev one_undone : (b : Bool) → ℕ → Connection → ℕ
 one_undone b n c = cond (is_done b n c) 0 1

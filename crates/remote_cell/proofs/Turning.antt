@@ -76,7 +76,7 @@ failed_both a b c (suc j) (suc k) (suc m) is p q = omega (arith, is, p, q)
 taken_both : (takes x y z : Bool) (g h given : List Item) (s t turns j k faults : ℕ)
     → given ≡ g ++ h → turns ≡ s + t → faults ≡ j + k → (a b c : Connections)
     → HasTaken takes x y g s j a b → HasTaken takes y z h t k b c
-        → HasTaken takes x z given turns faults a c
+    → HasTaken takes x z given turns faults a c
 taken_both takes x y z g h given s t turns j k faults given_is turns_is faults_is a b c p q = record {
   given_is = q.given_is ∙ ap (λ (l : List Item). l ++ h) p.given_is
       ∙ append_assoc (given_items takes (served a)) g h
@@ -287,7 +287,7 @@ hears_line door mid h text ready connected read =
         same = text_takes h said;
         told = subst (λ (a : Bool). IfBoth door.connections mid.connections
             (HasTaken h.batches a (heard_text h said).connected (may_items
-                (item_heard h said)) 1 0))
+            (item_heard h said)) 1 0))
             (sym connected)
             (subst (λ (b : Bool). IfBoth door.connections mid.connections
             (HasTaken h.batches true b (may_items (item_heard h said)) 1 0)) (sym still) told.2);
@@ -375,7 +375,7 @@ pub turns_long : (door mid : Port) (h : Hearing) (line : List ℕ) → IsReady (
 turns_long door mid h line ready connected read =
     let told = lift door.connections mid.connections (with_taken line) (λ all. ⊤) h (spoilt h)
     (Tells h.batches h.receiver (bad_behind h))
-        (HasTaken h.batches true true [] 0 0) read.connections
+    (HasTaken h.batches true true [] 0 0) read.connections
     (nothing_told mid.connections) ready.sound.told
     (λ all knows q. too_long h all.past all.present all.waiting line ready.goes_on connected
     read.plain read.ends.0 knows) in
@@ -411,7 +411,7 @@ admitted : (door mid : Port) (h : Hearing) → IsReady (site door h) → h.conne
 admitted door mid h ready left is found begins calm missed =
     let told = lift door.connections mid.connections next_connections
     (λ all. true ≡ is_some all.present) h (joining h) (λ all. ⊤)
-        (HasTaken h.batches false true [] 1 0) is
+    (HasTaken h.batches false true [] 1 0) is
     found ready.sound.told
     (λ all knows q. by all all.waiting refl knows q) in
     record {
@@ -512,7 +512,7 @@ pub turns_refused : (door mid : Port) (h : Hearing) (error : Failed) → IsReady
 turns_refused door mid h error ready left is cause missed =
     let told = kept_told door.connections mid.connections h
     (HasTaken h.batches h.connected h.connected [] 0 0) is ready.sound.told
-        (none_taken h.batches h.connected) in
+    (none_taken h.batches h.connected) in
     record {
       faults = 0;
       goes = record {
@@ -551,7 +551,7 @@ cut_goes : (door mid : Port) (h : Hearing) (line : List ℕ) (faults : ℕ) → 
 cut_goes door mid h line faults ready connected read cut many =
     let told = lift door.connections mid.connections (with_taken line) (λ all. Cuts all faults) h
     (leaving h) (λ all. ⊤)
-        (HasTaken h.batches true false [] 0 faults) read.connections cut ready.sound.told
+    (HasTaken h.batches true false [] 0 faults) read.connections cut ready.sound.told
     (λ all knows q.
     let done = cuts h all.past all.present all.waiting line faults ready.goes_on ready.paid
     connected read.plain read.ends.0 knows q in
@@ -747,13 +747,13 @@ is_connected false end waits other = absurd (other (waits refl).0)
 
 pub heard_by : (door mid : Port) (h k : Hearing) (line text : List ℕ) (item : Option CellNext)
     → text ≡ line → k ≡ heard_text h (line_said h.batches text) → item
-        ≡ item_heard h (line_said h.batches text)
+    ≡ item_heard h (line_said h.batches text)
     → IsReady (site door h) → h.connected ≡ true → ReadsLine door mid line Whole
     → Hears (site door h) (site mid k) item
 heard_by door mid h k line text item same after gives ready connected read =
     subst (λ (x : Option CellNext). Hears (site door h) (site mid k) x) (sym gives)
     (subst (λ (x : Hearing). Hears (site door h) (site mid x) (item_heard h
-        (line_said h.batches text)))
+    (line_said h.batches text)))
     (sym after)
     (hears_line door mid h text ready connected
     (subst (λ (l : List ℕ). ReadsLine door mid l Whole) (sym same) read)))

@@ -54,7 +54,7 @@ AreAnswered batches taken [] = Unit {0}
 AreAnswered batches taken (c ∷ connections) =
     IsPrefixOf c.written (connection_acknowledgements batches taken c)
     × AreAnswered batches (taken + length (line_items taken
-        (connection_lines batches c))) connections
+    (connection_lines batches c))) connections
 
 -- a connection is done: its bytes were taken to their end, and its acknowledgements were written
 abbrev pub is_done : Bool → ℕ → Connection → Bool
