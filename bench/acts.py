@@ -10,7 +10,7 @@ import sys
 import threading
 import time
 
-from clients import (OPENING, Client, Hall, Link, free_ports, get, good_gross, need, plan,
+from clients import (OPENING, Caller, Client, Hall, free_ports, get, good_gross, need, plan,
                      spell_grams)
 from rows import SLOT
 from weighings import script
@@ -76,13 +76,10 @@ class Follower(Client):
 
     def work(self):
         self.hall.wait_for_door(self.hall.ports[0])
-        while not self.ending.is_set():
-            with Link(self.hall.ports[0]) as link:
-                for _ in range(900):
-                    if self.ending.wait(PAUSE):
-                        return
-                    while self.isasking and self.page(link) == PAGE:
-                        pass
+        with Caller(self.hall.ports[0]) as link:
+            while not self.ending.wait(PAUSE):
+                while self.isasking and self.page(link) == PAGE:
+                    pass
 
     def page(self, link):
         answer = link.ask(get(f"/acts/{self.seen}"))
@@ -224,9 +221,8 @@ def standby(book):
     scale.ending.set()
     hall.kill()
     print(f"standby over {ahead.now()} rows, {len(waits) / SECONDS:.0f} new a second: {percent:.1f}"
-          f" %"
-          f" of a processor, {max(waits):.2f} s behind at most, {waits[len(waits) // 2]:.2f} s the"
-          " median")
+          f" % of a processor, {max(waits):.2f} s behind at most,"
+          f" {waits[len(waits) // 2]:.2f} s the median")
 
 
 whole = f"{work}/book"

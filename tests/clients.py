@@ -308,6 +308,10 @@ def read_head(text):
     return status, fields
 
 
+# How many requests go over one connection, of the 1 000 that a door takes.
+ASKED = 500
+
+
 class Link:
     """A connection to a door."""
 
@@ -396,6 +400,21 @@ class Curl:
         head, body = ran.stdout.split(b"\r\n\r\n", 1)
         status, fields = read_head(head)
         return Response(status, int(fields.get("Book-Row", -1)), "Connection" in fields, "", body)
+
+
+class Caller(Link):
+    """A connection to a door, and a new one behind so many requests."""
+
+    def __init__(self, port):
+        super().__init__(port)
+        self.port, self.asked = port, 0
+
+    def ask(self, request):
+        if self.asked == ASKED:
+            self.socket.close()
+            Caller.__init__(self, self.port)
+        self.asked += 1
+        return super().ask(request)
 
 
 class Desk:

@@ -9,7 +9,7 @@ import sys
 import time
 
 from book import Book
-from clients import (FIRST_DESK, FIRST_DOOR, OPENING, Desk, Hall, Lane, Link, drawn_gross,
+from clients import (FIRST_DESK, FIRST_DOOR, OPENING, Caller, Desk, Hall, Lane, drawn_gross,
                      free_ports, get, need, plan, spell_grams)
 from rows import SLOT, digest
 
@@ -25,24 +25,8 @@ PIECE, BLOCK = 65_536, 4096
 # ext4's call to shut a file system down, and its word for: without writing what is still held.
 SHUTDOWN = 0x8004587D
 NOTHING_WRITTEN = 2
-# How many requests go over one connection, of the 1 000 that a door takes; how many it serves.
-ASKED, CONNECTIONS = 500, 9
-
-
-class Caller(Link):
-    """A connection to a door, and a new one behind so many requests."""
-
-    def __init__(self, port):
-        super().__init__(port)
-        self.port, self.asked = port, 0
-
-    def ask(self, request):
-        if self.asked == ASKED:
-            self.socket.close()
-            Caller.__init__(self, self.port)
-        self.asked += 1
-        return super().ask(request)
-
+# How many connections a door serves.
+CONNECTIONS = 9
 
 def leave(room):
     """Takes the room of the disk but for so many bytes."""

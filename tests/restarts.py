@@ -143,8 +143,10 @@ def restarts_over_ports(place: Place, times: int) -> None:
     last = Service(place, text, LANES=LANES, REMOTE=remote)
     last.wait_until_served()
     sent = finish(scales)
+    # a gate that isn't read holds its lane up
+    wait_for(lambda: have_ended(scales), "both senders have sent the rest", 3600)
     for scale in scales:
-        status = scale.process.wait(3600)
+        status = scale.process.returncode
         need(status == 0, f"a sender ends with {status}: {scale.complaints()}")
         wait_for(lambda: scale.gate.count() == len(scale.sent), "each pack was let out")
     status, _ = last.stop()
@@ -155,6 +157,13 @@ def restarts_over_ports(place: Place, times: int) -> None:
         need(scale.acknowledged() == [grams(weight) for weight in scale.sent],
              "each weight was acknowledged once, in order")  # fmt: skip
     seen.tell("ports", count)
+
+
+def have_ended(scales: Sequence[NetworkScale]) -> bool:
+    """Whether the senders have ended; what their gates got meanwhile is taken down."""
+    for scale in scales:
+        scale.gate.count()
+    return all(scale.process.poll() is not None for scale in scales)
 
 
 def lost_acknowledgement(place: Place) -> None:
