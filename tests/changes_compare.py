@@ -101,8 +101,10 @@ def compare_record(lane: ChangingLane, lines: list[Line], is_whole: bool) -> int
     compare_first(lane, lines)
     moments = [weight.done for weight in lane.weights]
     for batch in lane.batches:
-        if not was_overtaken(batch, lines):
-            compare_place(lane, batch, lines, said, moments)
+        is_there = stands(lane, batch, lines, said, moments)
+        need(
+            is_there or was_overtaken(batch, lines), f"lane {lane.number}: {batch} stands elsewhere"
+        )
     return dropped
 
 
@@ -122,25 +124,22 @@ def compare_first(lane: ChangingLane, lines: list[Line]) -> None:
 def was_overtaken(batch: Said, lines: list[Line]) -> bool:
     """Whether a batch was said while nobody read, and another one before the next reader came: that
     one alone is said then."""
-    if any(line.what == f"batch {batch.what}" for line in lines):
-        return False
     gaps = [(before.at, line.at) for before, line in zip(lines, lines[1:])
             if line.what.startswith("# ")]  # fmt: skip
     return any(left - NEAR <= batch.began and batch.done <= came + NEAR for left, came in gaps)
 
 
-def compare_place(lane: ChangingLane, batch: Said, lines: list[Line], said: dict[str, float],
-                  moments: list[float]) -> None:  # fmt: skip
-    """The weights well before a batch were said before it, and those well behind it behind it. It
-    may have been said again, to another hall, and by a device too: one such place fits."""
+def stands(lane: ChangingLane, batch: Said, lines: list[Line], said: dict[str, float],
+           moments: list[float]) -> bool:  # fmt: skip
+    """Whether the weights well before a batch were said before it, and those well behind it behind
+    it. It may have been said again, to another hall, and by a device too: one such place fits."""
     before = bisect_right(moments, batch.began - NEAR)
     behind = bisect_right(moments, batch.done + NEAR)
     least = max((said[one.what] for one in lane.weights[:before][-50:] if one.what in said),
                 default=0.0)  # fmt: skip
     most = min((said[one.what] for one in lane.weights[behind : behind + 50] if one.what in said),
                default=float("inf"))  # fmt: skip
-    need(any(least <= line.at <= most for line in lines if line.what == f"batch {batch.what}"),
-         f"lane {lane.number}: {batch} stands at another place, {least} to {most}")  # fmt: skip
+    return any(least <= line.at <= most for line in lines if line.what == f"batch {batch.what}")
 
 
 class LaneRows:
