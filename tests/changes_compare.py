@@ -19,8 +19,6 @@ from rows import Piles, Row
 # Seconds by which a device's line may come before or behind another's that is said later, on a
 # machine that is hardly served.
 NEAR = 2.0
-# For how long at most nobody reads, in seconds.
-AWAY = 10.0
 
 
 class Line(NamedTuple):
@@ -111,14 +109,14 @@ def compare_record(lane: ChangingLane, lines: list[Line], is_whole: bool) -> int
 def compare_first(lane: ChangingLane, lines: list[Line]) -> None:
     """Each reader heard the batch first that was said last: by the adapter, or meanwhile."""
     newest = ""
-    for line, then in zip(lines, lines[1:]):
-        if line.what.startswith("batch "):
-            newest = line.what
-        elif line.what.startswith("# ") and newest:
+    for before, line, then in zip(lines, lines[1:], lines[2:]):
+        if before.what.startswith("batch "):
+            newest = before.what
+        if line.what.startswith("# ") and newest:
             meanwhile = [f"batch {batch.what}" for batch in lane.batches
-                         if batch.began < then.at and line.at - NEAR < batch.done + AWAY]  # fmt: skip
+                         if before.at - NEAR < batch.done and batch.began < then.at]  # fmt: skip
             need(then.what == newest or then.what in meanwhile,
-                 f"lane {lane.number}: a reader heard {then.what} first, and not {newest}")  # fmt: skip
+                 f"lane {lane.number}: a reader heard {then.what} and not {newest}")  # fmt: skip
 
 
 def was_overtaken(batch: Said, lines: list[Line]) -> bool:
