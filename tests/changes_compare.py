@@ -19,8 +19,6 @@ from rows import Piles, Row
 # Seconds by which a device's line may come before or behind another's that is said later, on a
 # machine that is hardly served.
 NEAR = 2.0
-# For how long at most nobody reads, in seconds.
-AWAY = 10.0
 
 
 class Line(NamedTuple):
@@ -101,46 +99,45 @@ def compare_record(lane: ChangingLane, lines: list[Line], is_whole: bool) -> int
     compare_first(lane, lines)
     moments = [weight.done for weight in lane.weights]
     for batch in lane.batches:
-        if not was_overtaken(batch, lines):
-            compare_place(lane, batch, lines, said, moments)
+        is_there = stands(lane, batch, lines, said, moments)
+        need(
+            is_there or was_overtaken(batch, lines), f"lane {lane.number}: {batch} stands elsewhere"
+        )
     return dropped
 
 
 def compare_first(lane: ChangingLane, lines: list[Line]) -> None:
     """Each reader heard the batch first that was said last: by the adapter, or meanwhile."""
     newest = ""
-    for line, then in zip(lines, lines[1:]):
-        if line.what.startswith("batch "):
-            newest = line.what
-        elif line.what.startswith("# ") and newest:
+    for before, line, then in zip(lines, lines[1:], lines[2:]):
+        if before.what.startswith("batch "):
+            newest = before.what
+        if line.what.startswith("# ") and newest:
             meanwhile = [f"batch {batch.what}" for batch in lane.batches
-                         if batch.began < then.at and line.at - NEAR < batch.done + AWAY]  # fmt: skip
+                         if before.at - NEAR < batch.done and batch.began < then.at]  # fmt: skip
             need(then.what == newest or then.what in meanwhile,
-                 f"lane {lane.number}: a reader heard {then.what} first, and not {newest}")  # fmt: skip
+                 f"lane {lane.number}: a reader heard {then.what} and not {newest}")  # fmt: skip
 
 
 def was_overtaken(batch: Said, lines: list[Line]) -> bool:
     """Whether a batch was said while nobody read, and another one before the next reader came: that
     one alone is said then."""
-    if any(line.what == f"batch {batch.what}" for line in lines):
-        return False
     gaps = [(before.at, line.at) for before, line in zip(lines, lines[1:])
             if line.what.startswith("# ")]  # fmt: skip
     return any(left - NEAR <= batch.began and batch.done <= came + NEAR for left, came in gaps)
 
 
-def compare_place(lane: ChangingLane, batch: Said, lines: list[Line], said: dict[str, float],
-                  moments: list[float]) -> None:  # fmt: skip
-    """The weights well before a batch were said before it, and those well behind it behind it. It
-    may have been said again, to another hall, and by a device too: one such place fits."""
+def stands(lane: ChangingLane, batch: Said, lines: list[Line], said: dict[str, float],
+           moments: list[float]) -> bool:  # fmt: skip
+    """Whether the weights well before a batch were said before it, and those well behind it behind
+    it. It may have been said again, to another hall, and by a device too: one such place fits."""
     before = bisect_right(moments, batch.began - NEAR)
     behind = bisect_right(moments, batch.done + NEAR)
     least = max((said[one.what] for one in lane.weights[:before][-50:] if one.what in said),
                 default=0.0)  # fmt: skip
     most = min((said[one.what] for one in lane.weights[behind : behind + 50] if one.what in said),
                default=float("inf"))  # fmt: skip
-    need(any(least <= line.at <= most for line in lines if line.what == f"batch {batch.what}"),
-         f"lane {lane.number}: {batch} stands at another place, {least} to {most}")  # fmt: skip
+    return any(least <= line.at <= most for line in lines if line.what == f"batch {batch.what}")
 
 
 class LaneRows:

@@ -122,7 +122,7 @@ def check_refused(place: Place, one: Weighed) -> None:
     need(ask(place.port, "/lanes/1")[1] == "lane 1 idle\n", "the lane is idle")
     one.lane.weigh(300_001)
     one.lane.page("A")
-    service_says = "hall: lane 1: 1 weights came without a batch"
+    service_says = "hall: lane 1: 1 weight"
     wait_for(lambda: one.service.errors().count(service_says) == 2, "the count is told", 60)
     one.wait_batch("A")
     one.weigh(3)

@@ -180,21 +180,22 @@ class ChangingLane:
     async def hear_scale(self) -> None:
         """Hears the scale."""
         async for piece in pieces_of(self.settings.scale):
-            if piece is True:
-                self.settled_from = time.monotonic() + self.settings.scale.settle
-            elif piece is False:
-                self.take(self.engine.cut())
-            else:
+            if not isinstance(piece, bool):
                 self.take(self.engine.feed(piece))
+                continue
+            # a new connection may come before the end of the old one is seen
+            self.take(self.engine.cut())
+            if piece:
+                self.settled_from = time.monotonic() + self.settings.scale.settle
 
     async def hear_scanner(self, scanner: Source) -> None:
         """Hears the scanner."""
         async for piece in pieces_of(scanner):
-            if piece is False:
-                for rest in self.scans.cut():
-                    tell(f"the scanner broke off in a line: {ascii(rest.decode('latin-1'))}")
-            elif piece is not True:
+            if not isinstance(piece, bool):
                 self.take_scans(self.scans.feed(piece))
+                continue
+            for rest in self.scans.cut():
+                tell(f"the scanner broke off in a line: {ascii(rest.decode('latin-1'))}")
 
     def hear_page(self, name: bytes, person: str) -> bool:
         """Hears a person at a page."""
