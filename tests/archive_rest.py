@@ -2,7 +2,7 @@
 """The archive beside the program itself: books that are drawn at random, through the script line by
 line, are taken in by `hall acts`, and the register and every sheet are compared with `export` and
 `report`; the witness is made and holds against `ship` and `audit`. Each book is then spoiled: with
-a row changed, one cut off, and another book in its place.
+a row changed, one cut off, and another book in its place. First the story of docs/INSPECTOR.md.
 
 usage: tests/archive_rest.py [BOOKS [SEED]]     HALL names the program; needs sqlalchemy, alembic"""
 
@@ -18,11 +18,12 @@ from contextlib import redirect_stderr, redirect_stdout
 HERE = os.path.dirname(os.path.realpath(__file__))
 sys.path.insert(0, f"{HERE}/../archive")
 
+import archive_story  # noqa: E402
 from drawn_books import Draw, draw_book  # noqa: E402
 
 from hall_archive import settings, store  # noqa: E402
 from hall_archive.__main__ import main as archive  # noqa: E402
-from hall_archive.service import Witnessing  # noqa: E402
+from hall_archive.service import People, Witnessing  # noqa: E402
 from hall_archive.store import Store  # noqa: E402
 from hall_archive.witness import Witness  # noqa: E402
 
@@ -123,6 +124,18 @@ def spoil(room: Room, book: str, path: str, count: int, chance: random.Random) -
     room.wanted(1, "rows are others", "verify", book)
 
 
+def try_story(room: Room) -> None:
+    """The story that docs/INSPECTOR.md shows is what the archive says of the same batch."""
+    archive_story.make_book(room.program, room.folder)
+    room.name(archive_story.BOOK)
+    room.wanted(0, "sheets are the book's", "take", archive_story.BOOK)
+    engine = store.open_engine(settings.load(room.path).database, True)
+    People(Store(engine, "main", archive_story.BOOK), f"{room.folder}/front.log").look()
+    status, story = room.ask("story", archive_story.BOOK, "MORNING")
+    if faults := archive_story.differences(story):
+        sys.exit("\n".join(faults))
+
+
 def main() -> None:
     books = int(sys.argv[1]) if len(sys.argv) > 1 else 30
     seed = sys.argv[2] if len(sys.argv) > 2 else str(random.randrange(10**6))
@@ -130,6 +143,7 @@ def main() -> None:
     rows = 0
     with tempfile.TemporaryDirectory() as folder:
         room = Room(program, folder)
+        try_story(room)
         for place in range(books):
             rows += try_book(room, place, seed)
     print(f"{books} books, {rows} rows: the register, sheets and witness hold; spoiled ones told")

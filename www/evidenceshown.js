@@ -1,5 +1,5 @@
-// Evidence on other pages: the newest of each on a batch's sheet, and on the board alarms for what is
-// overdue or not in order. Where no archive answers, neither says anything of it.
+// Evidence on other pages: the newest of each on a batch's sheet, and on the board alarms for what
+// is overdue or not in order. Where no archive answers, neither says anything of it.
 
 import { addWords, say } from "./words.js";
 import { make } from "./page.js";
