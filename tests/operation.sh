@@ -10,7 +10,7 @@
 #
 # usage: tests/operation.sh [RESTARTS [CASE..]]     as: tests/operation.sh 20 good_end backups
 #        HALL names another program than the one that `./hall` builds
-# needs: root, for a mount of its own; Python 3.11, systemd-notify. Done in some 15 minutes, at most
+# needs: root, for a mount of its own; Python 3.11, systemd-notify. Done in some 20 minutes, at most
 # 90.
 set -eu
 here=$(dirname "$(readlink -f "$0")")/..
