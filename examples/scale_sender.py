@@ -22,8 +22,9 @@ with --book.
 
 Once a batch was said, each new connection begins with that line under the number 1, whether weights
 come or not: a new hall takes it, so that no weight is booked under another batch, and one that goes
-on says how many lines it has taken. Where a batch is under way it may be taken twice: its lane then
-stops and starts once more.
+on says how many lines it has taken. Where a batch is under way, or is the first line of all, it may
+be taken twice: its lane then stops and starts once more. So this may begin anew with a batch while
+the hall stays.
 
 At the hall's own port no weight is taken twice by halls that end in good order. Behind a tunnel the
 lines alone can't tell one case: a hall took a weight, it ended, and its acknowledgement was lost or
@@ -32,8 +33,8 @@ this asks the book first whether lane L has the weight: at a door (http://127.0.
 front (https://NAME/hall), where FILE has `NAME:PASSWORD` of a person who may look. While no hall is
 there to be asked, it waits.
 
---first N is for who begins this anew while the hall stays: the number after the last one that was
-acknowledged.
+--first N is for who begins this anew with a weight while the hall stays: the number after the last
+one that was acknowledged.
 
 Status 0: the end was acknowledged. 1: it wasn't, and the hall is gone; the lane may have heard it.
 2: the words are wrong. 3: the hall has taken more than this has said, so see --first."""
@@ -181,8 +182,9 @@ class Numbers:
 
     def find(self, number: int) -> bool:
         """Takes the answer to a batch with the number 1, by which a connection begins: how many
-        lines the hall has taken. Says whether the line is acknowledged by it."""
-        if number > max(self.said | {self.acknowledged, 1}):
+        lines the hall has taken. Says whether the line is acknowledged by it. A batch may be said
+        again, so where it is the first line of all, a hall that goes on is gone on with."""
+        if 0 < self.acknowledged and number > max(self.said | {self.acknowledged}):
             raise Ahead(number)
         is_said = number in self.said
         if is_said:
@@ -207,10 +209,6 @@ class Numbers:
         self.acknowledged = acknowledged
         self.tries = []
         self.said = set()
-
-    def is_hall_unknown(self) -> bool:
-        """Whether lines were said, and the hall of this connection may be another one."""
-        return not self.in_step and self.acknowledged > 0
 
     def is_silence_told(self) -> bool:
         """Whether silence says something: that the hall has taken fewer lines."""
@@ -501,7 +499,7 @@ class Sender:
     def is_said(self, link: Link, what: bytes, began: float) -> bool:
         """Says a line under each number that is to be tried here. Whether it is acknowledged, or in
         the book, which is asked again before another number is tried."""
-        if self.batch is not None and self.numbers.is_hall_unknown():
+        if self.batch is not None and not self.numbers.in_step:
             found = self.finds_hall(link)
             if found is not Answer.OTHER_NUMBER:
                 return found is Answer.DONE

@@ -44,6 +44,8 @@ ENDS = 20
 LOOK = 0.02
 # How many batches are said to each of the halls of a lane that changes its batch.
 CHANGES = 10
+# How often a sender begins anew while the hall stays.
+ANEW = 6
 
 
 def fail(said: str) -> NoReturn:
@@ -499,6 +501,25 @@ def check_batches(through: Callable[[int], int], cuts: int) -> None:
         fail(f"batches: {hall.changes} were taken of {ENDS * CHANGES}")
 
 
+def check_anew() -> None:
+    """Senders that are killed while the hall stays, and begin anew with a batch: each weight that
+    was acknowledged stands once, under its batch."""
+    hall = Hall()
+    wanted = []
+    for at in range(ANEW):
+        sender = run_sender(hall.port, [])
+        assert sender.stdin and sender.stdout
+        weights = [f"{262 + at}.{one:03}" for one in range(at % 3)]
+        sender.stdin.write("".join(f"{line}\n" for line in (f"batch B{at}", *weights)))
+        for _ in range(1 + len(weights)):
+            sender.stdout.readline()
+        sender.kill()
+        sender.communicate()
+        wanted += [(f"B{at}", weight) for weight in weights]
+    if list(zip(hall.batches, hall.rows)) != wanted or hall.batch != f"B{ANEW - 1}":
+        fail(f"anew: the book has {hall.rows} under {hall.batches} for {wanted}")
+
+
 def wait_until_settled(hall: Hall) -> None:
     """Ends a hall that owes no answer, at a drawn moment."""
     time.sleep(hall.draw.uniform(0, 0.5))
@@ -537,6 +558,7 @@ def main() -> None:
     check_bad_lines()
     check_lost([], ["262.000", "263.000", "263.000", "263.000", "264.000", "263.000"], 1)
     check_lost(["--book"], ["262.000", "263.000", "263.000", "264.000", "263.000"], 0)
+    check_anew()
     check_batches(lambda port: port, 0)
     check_batches(lambda port: port, 5)
     check_batches(lambda port: Tunnel(port).port, 0)

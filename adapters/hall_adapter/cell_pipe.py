@@ -192,4 +192,7 @@ class SenderPipe(Sink):
                 await sender.wait()
             finally:
                 self.end()
+                if sender.returncode is None:
+                    # the next one would speak beside it
+                    sender.terminate()
             await asyncio.sleep(AGAIN)
