@@ -439,8 +439,7 @@ def check_lost(words: list[str], rows: list[str], complaints: int) -> None:
         sender.stdout.readline()
     hall.is_deaf = True
     sender.stdin.write("263.000\n")
-    while len(hall.rows) < 3:
-        time.sleep(0.01)
+    hall.thread.join()
     hall.is_deaf = False
     time.sleep(0.3)
     hall.begin()
