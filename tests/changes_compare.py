@@ -41,7 +41,7 @@ class Session:
 
     packs: list[Pack] = field(default_factory=list)
     times: list[float] = field(default_factory=list)
-    # for each good change: when it was said, and the first weight behind it
+    # for each good change of a lane that weighs: when it was said, and the first weight behind it
     changes: list[tuple[float, str]] = field(default_factory=list)
     without: int = 0
 
@@ -72,7 +72,9 @@ def sessions_of(lines: list[Line]) -> list[Session]:
             batch = change = None
         elif what.startswith("batch "):
             name = what.removeprefix("batch ")
-            batch, change = (name, at) if name.startswith("B") else (None, None)
+            is_weighing = bool(sessions[-1].packs) or sessions[-1].without > 0
+            batch = name if name.startswith("B") else None
+            change = at if batch is not None and is_weighing else None
         elif batch is None:
             sessions[-1].without += 1
         else:
