@@ -73,6 +73,13 @@ def check_rights(anna, ben, wall):
     expect(anna.act(1, act="end", batch="A"), 403, "anna as desk 1")
 
 
+def changes_logged():
+    """Who changed which lane, by the front's log."""
+    with open(LOG, encoding="ascii") as file:
+        lines = [json.loads(line) for line in file]
+    return [(line["person"], line["lane"]) for line in lines if line["status"] == "200"]
+
+
 def check_said(anna):
     """What is said comes to the pipe, and first to each hall that reads anew."""
     reply = change(anna, LANE, GOOD)
@@ -92,9 +99,9 @@ def check_said(anna):
         said = [line.split(" ", 1)[1].strip() for line in file]
     need(said == [f"batch {name} by page anna" for name in ("MORNING", "NOON", "EVENING")],
          f"the adapter took down {said}")
-    with open(LOG, encoding="ascii") as file:
-        lines = [json.loads(line) for line in file]
-    found = [(line["person"], line["lane"]) for line in lines if line["status"] == "200"]
+    # nginx writes its line after the answer
+    wait_until(lambda: len(changes_logged()) >= 3, "the front's log")
+    found = changes_logged()
     need(found == [("anna", "/lane/1/batch")] * 3, f"the front took down {found}")
 
 
