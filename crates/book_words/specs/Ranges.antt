@@ -14,9 +14,10 @@ use Rattle.book_words.specs.declared.views.SampleView.{SampleView}
 use Rattle.book_words.specs.declared.views.SummaryView.{SummaryView}
 use Rattle.book_words.specs.declared.views.ActView.{ActView}
 use Rattle.book_words.specs.declared.views.RowsView.{RowsView}
+use Rattle.book_words.specs.declared.views.PacksView.{PacksView}
 use Rattle.book_words.specs.declared.views.TheConstants.{MAX_DRAWN, MAX_PAGE}
 use Rattle.book_words.specs.declared.reply.Reply.{Reply}
-use Rattle.book_words.specs.declared.reply.Reply.TheVariants.{SheetIs, PackIs, SampleIs, SummaryIs, RowsAre, ShipmentIs}
+use Rattle.book_words.specs.declared.reply.Reply.TheVariants.{SheetIs, PackIs, SampleIs, SummaryIs, RowsAre, ShipmentIs, PacksAre}
 use Rattle.book_words.specs.declared.refusal.Refusal.{Refusal}
 use Rattle.book_words.specs.declared.refusal.Refusal.TheVariants.{DayBack, MeasuredAlready}
 use Rattle.book_words.specs.Refusals.{is_within}
@@ -75,6 +76,11 @@ pub record IsPageInRange (view : RowsView) : Type 0 where
   pub inside : view.before + length view.acts ≤ MAX_ROWS
   pub lawful : AllByRecursion IsLawfulSomewhere view.acts
 
+-- so is each pack of a page of packs, which has no more than it may
+pub record ArePacksInRange (view : PacksView) : Type 0 where
+  pub few : length view.packs ≤ MAX_PAGE
+  pub each : AllByRecursion IsPackInRange view.packs
+
 -- what a reply tells is in range
 abbrev pub IsReplyInRange : Reply → Type 0
 IsReplyInRange (SheetIs sheet) = IsSheetInRange sheet
@@ -83,6 +89,7 @@ IsReplyInRange (SampleIs view) = IsSampleInRange view
 IsReplyInRange (SummaryIs view) = IsSummaryInRange view
 IsReplyInRange (RowsAre view) = IsPageInRange view
 IsReplyInRange (ShipmentIs view) = IsPageInRange view
+IsReplyInRange (PacksAre view) = ArePacksInRange view
 IsReplyInRange _ = Unit {0}
 
 -- the day or the mass that a refusal tells is within its limits

@@ -1,5 +1,5 @@
 -- What the book tells of a batch, a pack, a lane, a sample and the whole hall.
-use Rattle.std.specs.Prelude.{ℕ, ℤ, Bool, true, false, List, length, count_by, Option, Some, None, option_map, is_none, Result, Ok, Err, if◌then◌else◌}
+use Rattle.std.specs.Prelude.{ℕ, ℤ, Bool, true, false, nat_lt, List, length, map, filter, take, filter_map, count_by, Option, Some, None, option_map, is_none, Result, Ok, Err, if◌then◌else◌}
 use Rattle.std.specs.Option.{option_and_then, option_map_or}
 use Rattle.pack_judge.specs.declared.types.Signal.{Signal}
 use Rattle.pack_judge.specs.declared.types.Pile.TheVariants.{Passed, Rejected, Sampled, Voided}
@@ -10,7 +10,7 @@ use Rattle.book_words.specs.declared.act.Unit as units
 use Rattle.book_words.specs.declared.act.BatchState.{BatchState}
 use Rattle.book_words.specs.declared.act.BatchState.TheVariants.{Running, Ended, Drawn, Closed}
 use Rattle.book_words.specs.declared.act.Question.{Question}
-use Rattle.book_words.specs.declared.act.Question.TheVariants.{Sheet, Pack, Lane, Sample, Summary, Rows, Shipment}
+use Rattle.book_words.specs.declared.act.Question.TheVariants.{Sheet, Pack, Lane, Sample, Summary, Rows, Shipment, Packs}
 use Rattle.book_words.specs.declared.views.TestView.{TestView}
 use Rattle.book_words.specs.declared.views.Verdict.{Verdict}
 use Rattle.book_words.specs.declared.views.Sheet as sheets
@@ -18,8 +18,10 @@ use Rattle.book_words.specs.declared.views.PackView.{PackView}
 use Rattle.book_words.specs.declared.views.LaneView.{LaneView}
 use Rattle.book_words.specs.declared.views.SampleView.{SampleView}
 use Rattle.book_words.specs.declared.views.SummaryView.{SummaryView}
+use Rattle.book_words.specs.declared.views.PacksView.{PacksView}
+use Rattle.book_words.specs.declared.views.TheConstants.{MAX_PAGE}
 use Rattle.book_words.specs.declared.reply.Reply.{Reply}
-use Rattle.book_words.specs.declared.reply.Reply.TheVariants.{SheetIs, PackIs, LaneIs, SampleIs, SummaryIs, RowsAre, ShipmentIs}
+use Rattle.book_words.specs.declared.reply.Reply.TheVariants.{SheetIs, PackIs, LaneIs, SampleIs, SummaryIs, RowsAre, ShipmentIs, PacksAre}
 use Rattle.book_words.specs.declared.refusal.Refusal.{Refusal}
 use Rattle.book_words.specs.declared.refusal.Refusal.TheVariants.{BatchUnknown, PackUnknown, NotDrawn}
 use Rattle.book_words.specs.Acts.{said, batch_opened, nominal_of, unit_of, product_of, density_of, state_of, same_state, lane_batch}
@@ -123,6 +125,18 @@ view_of_reading entries reading =
 abbrev pub pack_view : List Entry → ℕ → Option PackView
 pack_view entries pack = option_and_then (view_of_reading entries) (reading_of entries pack)
 
+-- the numbers of the packs of a batch above one, in their order: the first of them, as many as a page
+-- may have
+abbrev pub numbers_after : List Entry → Name → ℕ → List ℕ
+numbers_after entries batch after =
+    take MAX_PAGE (filter (λ number. nat_lt after number)
+    (map (λ reading. reading.number) (readings_of_batch entries batch)))
+
+-- a page of the packs of a batch: what is told of each
+abbrev pub packs_after : List Entry → Name → ℕ → PacksView
+packs_after entries batch after =
+    record { packs = filter_map (pack_view entries) (numbers_after entries batch after) }
+
 -- what is told of a lane: its batch, and its unsettled reading
 abbrev pub lane_view : List Entry → ℕ → LaneView
 lane_view entries lane =
@@ -188,10 +202,14 @@ question_told entries (Sample batch) =
 question_told entries Summary = Ok (SummaryIs (summary entries))
 question_told entries (Rows after) = Ok (RowsAre (page_after after entries))
 question_told entries (Shipment after) = Ok (ShipmentIs (page_after after entries))
+question_told entries (Packs batch after) =
+    if is_none (product_of entries batch) then Err BatchUnknown else
+    Ok (PacksAre (packs_after entries batch after))
 
 -- whether a question takes memory: one for packs that were drawn, and one for a page
 abbrev pub takes_memory : Question → Bool
 takes_memory (Sample batch) = true
 takes_memory (Rows after) = true
 takes_memory (Shipment after) = true
+takes_memory (Packs batch after) = true
 takes_memory _ = false

@@ -130,6 +130,8 @@ pub enum Question {
     Rows { after: u32 },
     /// The same page as a shipment, for a book that follows.
     Shipment { after: u32 },
+    /// A page of the packs of a batch whose numbers are above this one.
+    Packs { batch: Name, after: u32 },
 }
 
 /// What is asked: an act or a question.

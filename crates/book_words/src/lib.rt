@@ -14,10 +14,10 @@ mod views;
 pub use act::{Act, Ask, BatchState, Entry, Prior, Question, Reading, Unit, Want};
 pub use caller::{AskError, Caller};
 pub use name::Name;
-pub use page::ActList;
+pub use page::{ActList, PackList};
 pub use refusal::{MAX_REFUSAL_NAME, Refusal};
 pub use reply::{Answered, Refused, Reply};
 pub use views::{
-    ActView, Fails, LaneView, MAX_DRAWN, MAX_PAGE, PackView, RowsView, SampleView, Sheet,
-    SummaryView, TestView, Verdict,
+    ActView, Fails, LaneView, MAX_DRAWN, MAX_PAGE, PackView, PacksView, RowsView, SampleView,
+    Sheet, SummaryView, TestView, Verdict,
 };

@@ -1,5 +1,7 @@
 use crate::refusal::Refusal;
-use crate::views::{LaneView, PackView, RowsView, SampleView, Sheet, SummaryView, Verdict};
+use crate::views::{
+    LaneView, PackView, PacksView, RowsView, SampleView, Sheet, SummaryView, Verdict,
+};
 use pack_judge::Signal;
 
 /// The answer to an ask that isn't refused.
@@ -25,6 +27,8 @@ pub enum Reply {
     RowsAre(RowsView),
     /// Some rows to be shipped.
     ShipmentIs(RowsView),
+    /// Some packs of a batch.
+    PacksAre(PacksView),
 }
 
 /// A reply, and the place in the list that it speaks of: the new row, or the length of the list.

@@ -1,6 +1,6 @@
 use crate::act::{BatchState, Entry, Unit};
 use crate::name::Name;
-use crate::page::ActList;
+use crate::page::{ActList, PackList};
 use annex_tables::Mode;
 use pack_judge::{Class, Pile, Signal, Tally};
 use sample_draw::Picks;
@@ -8,7 +8,7 @@ use sample_draw::Picks;
 /// The most packs that are drawn from a batch, in both samples together: twice 80 (Annex II).
 pub const MAX_DRAWN: usize = 160;
 
-/// The most rows of a page. A response has room for their lines, and they are half of what a book
+/// The most rows, or packs, of a page. A response has room for their lines, and they are half of what a book
 /// is walked in; at 139 packs a second, two pages are asked each second.
 pub const MAX_PAGE: u32 = 128;
 
@@ -150,4 +150,10 @@ pub struct ActView {
 pub struct RowsView {
     pub before: u32,
     pub acts: ActList,
+}
+
+/// A page of the packs of a batch, in the order of their numbers.
+#[derive(PartialEq, Eq, Drop)]
+pub struct PacksView {
+    pub packs: PackList,
 }
