@@ -32,12 +32,12 @@ use Rattle.book_words.specs.declared.act.Reading.{Reading}
 use Rattle.book_words.specs.declared.act.Want.{Want}
 use Rattle.book_words.specs.declared.act.Want.TheVariants as want
 use Rattle.book_words.specs.declared.act.Question.{Question}
-use Rattle.book_words.specs.declared.act.Question.TheVariants.{Sheet, Pack, Lane, Sample, Summary, Rows, Shipment}
+use Rattle.book_words.specs.declared.act.Question.TheVariants.{Sheet, Pack, Lane, Sample, Summary, Rows, Shipment, Packs}
 use Rattle.book_words.specs.declared.views.Sheet as sheets
 use Rattle.book_words.specs.declared.views.PackView.{PackView}
-use Rattle.book_words.specs.declared.views.TheConstants.{MAX_DRAWN}
+use Rattle.book_words.specs.declared.views.TheConstants.{MAX_DRAWN, MAX_PAGE}
 use Rattle.book_words.specs.declared.reply.Reply.{Reply}
-use Rattle.book_words.specs.declared.reply.Reply.TheVariants.{SheetIs, PackIs, SampleIs}
+use Rattle.book_words.specs.declared.reply.Reply.TheVariants.{SheetIs, PackIs, SampleIs, PacksAre}
 use Rattle.book_words.specs.declared.reply.Answered.{Answered}
 use Rattle.book_words.specs.declared.reply.Refused.{Refused}
 use Rattle.book_words.specs.declared.refusal.Refusal.{Refusal}
@@ -63,7 +63,8 @@ use Rattle.book_words.specs.Answers.{reply_behind, judged_or_done, desk_answer, 
 use Rattle.book_words.specs.Soundness.{IsAnswer, IsRefusal}
 use Rattle.book_words.specs.Ranges.{IsBetween, IsGrossInRange, IsSummaryInRange, IsSheetInRange, IsPackInRange, IsSampleInRange, IsReplyInRange, IsRefusalInRange, is_act_in_range, AllInRange}
 use Rattle.book_words.proofs.LegalLemmas.{legal_in_range, legal_few}
-use Rattle.book_laws.proofs.PageLaws.{page_within}
+use Rattle.book_words.specs.Ranges.{ArePacksInRange}
+use Rattle.book_laws.proofs.PageLaws.{page_within, first_few}
 
 -- ---- what holds of each of some things
 
@@ -913,6 +914,40 @@ lane_told : (entries : List Entry) (test : Bool) (reply : Reply) → IsReplyInRa
 lane_told entries true reply h = tt
 lane_told entries false reply h = h
 
+-- what is found of some numbers isn't more than they are, and in range where each is
+views_few : (view : ℕ → Option PackView) (numbers : List ℕ)
+    → length (filter_map view numbers) ≤ length numbers
+views_few view [] = omega arith
+views_few view (number ∷ numbers) =
+    either (view number) (filter_map view numbers) (views_few view numbers)
+  where
+    either : (o : Option PackView) (views : List PackView) → length views ≤ length numbers
+        → length (cons_option o views) ≤ length numbers + 1
+    either None views h = omega (arith, h)
+    either (Some found) views h = omega (arith, h)
+
+views_fit : (view : ℕ → Option PackView) (numbers : List ℕ)
+    → ((number : ℕ) → IfSome (view number) IsPackInRange)
+    → AllByRecursion IsPackInRange (filter_map view numbers)
+views_fit view [] h = tt
+views_fit view (number ∷ numbers) h =
+    with_first IsPackInRange (view number) (filter_map view numbers) (h number)
+    (views_fit view numbers h)
+
+packs_within : (entries : List Entry) (batch : Name) (after : ℕ) → IsLegal entries
+    → ArePacksInRange (packs_after entries batch after)
+packs_within entries batch after legal =
+    record {
+      few = omega (
+        arith,
+        views_few (pack_view entries) (numbers_after entries batch after),
+        first_few MAX_PAGE (filter (λ number. nat_lt after number)
+            (map (λ reading. reading.number) (readings_of_batch entries batch))),
+      );
+      each = views_fit (pack_view entries) (numbers_after entries batch after)
+          (λ pack. pack_within entries pack legal);
+    }
+
 question_within : (entries : List Entry) (question : Question) → IsLegal entries
     → OutcomeInRange (question_answer entries (question_told entries question))
 question_within entries (Sheet batch) legal =
@@ -937,6 +972,13 @@ question_within entries (Sample batch) legal = either (is_none (product_of entri
 question_within entries Summary legal = summary_within entries legal
 question_within entries (Rows after) legal = page_within after entries legal
 question_within entries (Shipment after) legal = page_within after entries legal
+question_within entries (Packs batch after) legal = either (is_none (product_of entries batch))
+  where
+    either : (b : Bool) → OutcomeInRange
+        (question_answer entries (if b then Err why.BatchUnknown else
+        Ok (PacksAre (packs_after entries batch after))))
+    either true = tt
+    either false = packs_within entries batch after legal
 
 outcome_within : (limit : ℕ) (entries : List Entry) (ask : Ask) (wanted : Want) → IsLegal entries
     → OutcomeInRange (want_answer limit entries ask wanted)
