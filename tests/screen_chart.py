@@ -28,9 +28,14 @@ LOG = "/var/log/nginx/access.log"
 CLICK = """
     const [link, figure] = arguments;
     const painted = () => new Promise((go) => requestAnimationFrame(go));
+    const stands = new Promise((go) => new MutationObserver((_, watch) => {
+        if (!document.querySelector(figure)) return;
+        watch.disconnect();
+        go();
+    }).observe(document.body, { childList: true, subtree: true }));
     const began = performance.now();
     document.querySelector(link).click();
-    while (!document.querySelector(figure)) await painted();
+    await stands;
     await painted();
     await painted();
     return performance.now() - began"""

@@ -14,6 +14,9 @@ addWords({
   partly: ["Shown are {found} of {all} packs.", "Gezeigt sind {found} von {all} Packungen."],
 });
 
+// Milliseconds between two words on how far.
+const EVERY = 250;
+
 // A page about a batch: a field for its name, and below it what `draw` makes of its packs.
 export class BatchPage {
   constructor(name, draw) {
@@ -69,7 +72,7 @@ export class BatchPage {
 
   async load(batch, rows) {
     const sheet = await office.sheet(batch);
-    this.rows = rows;
+    Object.assign(this, { rows, saidAt: performance.now() });
     if (sheet.refused) {
       const { refusal } = await import("./refusals.js");
       put(this.said, refusal(sheet.refused, sheet.kept));
@@ -89,8 +92,13 @@ export class BatchPage {
 
   progress(batch, found, readings, row) {
     this.stopper.hidden = found >= readings;
-    const all = { found: count(found), all: count(readings), row: count(row) };
-    if (found < readings) put(this.said, say("reading", all));
+    // each word costs a frame, which the reading would wait for
+    const now = performance.now();
+    if (found < readings && now > this.saidAt + EVERY) {
+      this.saidAt = now;
+      put(this.said, say("reading", { found: count(found), all: count(readings),
+        row: count(row) }));
+    }
     return !this.isStopped && batch === this.batch;
   }
 }
