@@ -73,7 +73,7 @@ const ACTS: [(&[u8], &str, &[Part]); 13] = [
 ];
 
 // The other commands.
-const OTHERS: [(&[u8], &str, &[Part]); 7] = [
+const OTHERS: [(&[u8], &str, &[Part]); 8] = [
     (
         b"work",
         "work LANE BATCH, of a lane that the hall has (--lanes)",
@@ -85,6 +85,11 @@ const OTHERS: [(&[u8], &str, &[Part]); 7] = [
     (b"sample", "sample BATCH", &[Part::Name]),
     (b"summary", "summary", &[]),
     (b"acts", "acts ROW, or acts 0 for the first", &[Part::Row]),
+    (
+        b"packs",
+        "packs BATCH PACK, or packs BATCH 0 for the first",
+        &[Part::Name, Part::Row],
+    ),
 ];
 
 // The command of a word, by a table.

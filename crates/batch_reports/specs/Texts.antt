@@ -153,6 +153,10 @@ found_text view =
 unfoldable pub pack_text : PackView → List ℕ
 pack_text view = masses_text view ++ found_text view ++ codes "\n"
 
+-- the lines of some packs, in order
+abbrev pub pack_lines : List PackView → List ℕ
+pack_lines packs = flat_map pack_text packs
+
 -- the unsettled pack of a lane, or that it has none
 abbrev pub unsettled_text : Option ℕ → List ℕ
 unsettled_text None = codes " settled"
@@ -215,6 +219,7 @@ reply_text (reply.SampleIs view) = sample_text view
 reply_text (reply.SummaryIs view) = summary_text view
 reply_text (reply.RowsAre view) = lines_of view.acts
 reply_text (reply.ShipmentIs view) = shipment_text view
+reply_text (reply.PacksAre view) = pack_lines view.packs
 
 -- the text of an answer
 abbrev pub answer_text : Answered → List ℕ

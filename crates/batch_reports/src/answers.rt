@@ -5,7 +5,7 @@ ghost use Rattle.book_texts.specs.Appending.{HasRoom, Appended};
 ghost use Rattle.batch_reports.specs.Texts.{answer_text, reply_text, done_line, judged_line, closed_line};
 
 use crate::lanes::push_lane;
-use crate::packs::push_pack;
+use crate::packs::{push_pack, push_packs};
 use crate::pages::{push_lines, push_shipment};
 use crate::samples::push_sample;
 use crate::sheets::push_sheet;
@@ -16,7 +16,7 @@ use hall_units::{NoMemory, make_room};
 use pack_judge::Signal;
 
 /// No text of an answer or of a refusal has more bytes. The longest is a page of 128 lines: the
-/// room of each is 256 bytes. That of the samples, 160 packs in 20 digits and a blank each and a
+/// room of each is 256 bytes, and of a pack 227. That of the samples, 160 packs in 20 digits and a blank each and a
 /// name of 32 bytes, has 3 413 bytes, and a page as a shipment 12 304.
 pub const TEXT_ROOM: usize = 32_768;
 
@@ -48,6 +48,7 @@ fn push_reply(to: &mut Vec<u8>, reply: &Reply)
         Reply::SummaryIs(view) => push_summary(to, view),
         Reply::RowsAre(view) => push_lines(to, view.acts.as_slice()),
         Reply::ShipmentIs(view) => push_shipment(to, view),
+        Reply::PacksAre(view) => push_packs(to, view.packs.as_slice()),
     }
 }
 

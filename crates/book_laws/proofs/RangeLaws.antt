@@ -1,5 +1,5 @@
 -- What a book tells is in range, and what it refuses with.
-use Rattle.std.proofs.Common.{◌≡◌, ℕ, ℤ, pos, negsuc, neg_ℤ, inl, inr, unsigned_abs, zero, suc, ◌+◌, ◌-◌, ◌-ℤ◌, ◌*◌, ◌≤◌, ◌≤ℤ◌, ◌==◌, ◌&&◌, cond, if◌then◌else◌, length, take, drop, filter, slice_get, Result, Ok, Err, Bool, true, false, not, int_le, int_lt, List, [], ◌∷◌, ◌++◌, Option, Some, None, IfSome, is_none, option_map, subst, arith}
+use Rattle.std.proofs.Common.{◌≡◌, ℕ, ℤ, pos, negsuc, neg_ℤ, inl, inr, unsigned_abs, zero, suc, ◌+◌, ◌-◌, ◌-ℤ◌, ◌*◌, ◌≤◌, ◌≤ℤ◌, ◌==◌, ◌&&◌, cond, if◌then◌else◌, length, take, drop, filter, nat_lt, map, slice_get, Result, Ok, Err, Bool, true, false, not, int_le, int_lt, List, [], ◌∷◌, ◌++◌, Option, Some, None, IfSome, is_none, option_map, subst, arith}
 use Rattle.std.proofs.lemmas.Bool.{and_parts, cases_Bool}
 use Rattle.std.proofs.lemmas.Bool.Decides.{nat_tests}
 use Rattle.std.proofs.lemmas.Int.{ints}
@@ -32,12 +32,12 @@ use Rattle.book_words.specs.declared.act.Reading.{Reading}
 use Rattle.book_words.specs.declared.act.Want.{Want}
 use Rattle.book_words.specs.declared.act.Want.TheVariants as want
 use Rattle.book_words.specs.declared.act.Question.{Question}
-use Rattle.book_words.specs.declared.act.Question.TheVariants.{Sheet, Pack, Lane, Sample, Summary, Rows, Shipment}
+use Rattle.book_words.specs.declared.act.Question.TheVariants.{Sheet, Pack, Lane, Sample, Summary, Rows, Shipment, Packs}
 use Rattle.book_words.specs.declared.views.Sheet as sheets
 use Rattle.book_words.specs.declared.views.PackView.{PackView}
-use Rattle.book_words.specs.declared.views.TheConstants.{MAX_DRAWN}
+use Rattle.book_words.specs.declared.views.TheConstants.{MAX_DRAWN, MAX_PAGE}
 use Rattle.book_words.specs.declared.reply.Reply.{Reply}
-use Rattle.book_words.specs.declared.reply.Reply.TheVariants.{SheetIs, PackIs, SampleIs}
+use Rattle.book_words.specs.declared.reply.Reply.TheVariants.{SheetIs, PackIs, SampleIs, PacksAre}
 use Rattle.book_words.specs.declared.reply.Answered.{Answered}
 use Rattle.book_words.specs.declared.reply.Refused.{Refused}
 use Rattle.book_words.specs.declared.refusal.Refusal.{Refusal}
@@ -58,12 +58,13 @@ use Rattle.book_words.specs.Verdicts.{second_packs, first_defective}
 use Rattle.book_words.specs.Desks.{Row, is_desk_right, last_request, newest_row, repeated_row, same_act, desk_number}
 use Rattle.book_words.specs.Refusals as rules
 use Rattle.book_words.specs.Refusals.{refused_if, first_refusal, is_within, refusals_of, desk_refusals, refusal_of}
-use Rattle.book_words.specs.Views.{sheet_record, sheet_of, pack_record, view_of_reading, pack_view, sample_view, summary, told_or, refused_or, question_told}
+use Rattle.book_words.specs.Views.{sheet_record, sheet_of, pack_record, view_of_reading, pack_view, sample_view, summary, told_or, refused_or, question_told, numbers_after, packs_after}
 use Rattle.book_words.specs.Answers.{reply_behind, judged_or_done, desk_answer, want_answer, question_answer, IsLegal}
 use Rattle.book_words.specs.Soundness.{IsAnswer, IsRefusal}
 use Rattle.book_words.specs.Ranges.{IsBetween, IsGrossInRange, IsSummaryInRange, IsSheetInRange, IsPackInRange, IsSampleInRange, IsReplyInRange, IsRefusalInRange, is_act_in_range, AllInRange}
 use Rattle.book_words.proofs.LegalLemmas.{legal_in_range, legal_few}
-use Rattle.book_laws.proofs.PageLaws.{page_within}
+use Rattle.book_words.specs.Ranges.{ArePacksInRange}
+use Rattle.book_laws.proofs.PageLaws.{page_within, first_few}
 
 -- ---- what holds of each of some things
 
@@ -913,6 +914,40 @@ lane_told : (entries : List Entry) (test : Bool) (reply : Reply) → IsReplyInRa
 lane_told entries true reply h = tt
 lane_told entries false reply h = h
 
+-- what is found of some numbers isn't more than they are, and in range where each is
+views_few : (view : ℕ → Option PackView) (numbers : List ℕ)
+    → length (filter_map view numbers) ≤ length numbers
+views_few view [] = omega arith
+views_few view (number ∷ numbers) =
+    either (view number) (filter_map view numbers) (views_few view numbers)
+  where
+    either : (o : Option PackView) (views : List PackView) → length views ≤ length numbers
+        → length (cons_option o views) ≤ suc (length numbers)
+    either None views h = omega (arith, h)
+    either (Some found) views h = omega (arith, h)
+
+views_fit : (view : ℕ → Option PackView) (numbers : List ℕ)
+    → ((number : ℕ) → IfSome (view number) IsPackInRange)
+    → AllByRecursion IsPackInRange (filter_map view numbers)
+views_fit view [] h = tt
+views_fit view (number ∷ numbers) h =
+    with_first IsPackInRange (view number) (filter_map view numbers) (h number)
+    (views_fit view numbers h)
+
+packs_within : (entries : List Entry) (batch : Name) (after : ℕ) → IsLegal entries
+    → ArePacksInRange (packs_after entries batch after)
+packs_within entries batch after legal =
+    record {
+      few = omega (
+        arith,
+        views_few (pack_view entries) (numbers_after entries batch after),
+        first_few MAX_PAGE (filter (λ number. nat_lt after number)
+            (map (λ reading. reading.number) (readings_of_batch entries batch))),
+      );
+      each = views_fit (pack_view entries) (numbers_after entries batch after)
+          (λ pack. pack_within entries pack legal);
+    }
+
 question_within : (entries : List Entry) (question : Question) → IsLegal entries
     → OutcomeInRange (question_answer entries (question_told entries question))
 question_within entries (Sheet batch) legal =
@@ -937,6 +972,13 @@ question_within entries (Sample batch) legal = either (is_none (product_of entri
 question_within entries Summary legal = summary_within entries legal
 question_within entries (Rows after) legal = page_within after entries legal
 question_within entries (Shipment after) legal = page_within after entries legal
+question_within entries (Packs batch after) legal = either (is_none (product_of entries batch))
+  where
+    either : (b : Bool) → OutcomeInRange
+        (question_answer entries (if b then Err why.BatchUnknown else
+        Ok (PacksAre (packs_after entries batch after))))
+    either true = tt
+    either false = packs_within entries batch after legal
 
 outcome_within : (limit : ℕ) (entries : List Entry) (ask : Ask) (wanted : Want) → IsLegal entries
     → OutcomeInRange (want_answer limit entries ask wanted)

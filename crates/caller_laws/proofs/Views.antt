@@ -1,5 +1,5 @@
 -- What a question is told doesn't change with who brought the entries.
-use Rattle.std.proofs.Common.{◌≡◌, ℕ, ℤ, nat_lt, false, cond, List, length, count_by, Some, None, option_map, is_none, Ok, Err}
+use Rattle.std.proofs.Common.{◌≡◌, ℕ, ℤ, nat_lt, false, cond, List, length, map, filter, filter_map, take, count_by, Some, None, option_map, is_none, Ok, Err}
 use Rattle.std.specs.Option.{option_and_then, option_map_or}
 use Rattle.annex_tables.specs.Errors.{limits_of}
 use Rattle.pack_judge.specs.declared.types.Signal.{Signal}
@@ -13,14 +13,15 @@ use Rattle.book_words.specs.declared.act.BatchState.TheVariants as state
 use Rattle.book_words.specs.declared.act.Want.TheVariants as want
 use Rattle.book_words.specs.declared.act.Question.{Question}
 use Rattle.book_words.specs.declared.act.Question.TheVariants as question
-use Rattle.book_words.specs.declared.reply.Reply.TheVariants.{SheetIs, PackIs, LaneIs, SampleIs, SummaryIs}
+use Rattle.book_words.specs.declared.reply.Reply.TheVariants.{SheetIs, PackIs, LaneIs, SampleIs, SummaryIs, PacksAre}
 use Rattle.book_words.specs.declared.refusal.Refusal.TheVariants.{BatchUnknown, PackUnknown, NotDrawn}
+use Rattle.book_words.specs.declared.views.TheConstants.{MAX_PAGE}
 use Rattle.book_words.specs.Acts.{nominal_put, unit_put, density_given, state_set, batch_opened, same_state}
 use Rattle.book_words.specs.Samples.{Sample}
 use Rattle.book_words.specs.Piles.{tally}
 use Rattle.book_words.specs.Verdicts.{second_packs}
 use Rattle.book_words.specs.Refusals.{is_closed, lane_number}
-use Rattle.book_words.specs.Views.{test_view, verdict_if_closed, sheet_record, sheet_of, pack_record, view_of_reading, pack_view, lane_view, sample_view, batches_in, summary, told_or, refused_or, question_told}
+use Rattle.book_words.specs.Views.{test_view, verdict_if_closed, sheet_record, sheet_of, pack_record, view_of_reading, pack_view, lane_view, sample_view, batches_in, summary, numbers_after, packs_after, told_or, refused_or, question_told}
 use Rattle.caller_laws.specs.Alike.{all_unnamed, shows_callers}
 use Rattle.caller_laws.proofs.Said.{said_same, last_same, lane_same, product_same, nominal_same, reading_net_same, class_same}
 use Rattle.caller_laws.proofs.Readings.{length_same, readings_same, reading_same, unsettled_same, of_batch_same, population_same, nonstandard_same, inadequate_same, net_sum_same}
@@ -124,6 +125,17 @@ module _ (entries : List Entry) where
   pack_same pack =
       λ i. option_and_then (λ reading. view_same reading i) (reading_same entries pack i)
 
+  numbers_same : (batch : Name) (after : ℕ)
+      → numbers_after bare batch after ≡ numbers_after entries batch after
+  numbers_same batch after =
+      λ i. take MAX_PAGE (filter (λ number. nat_lt after number)
+      (map (λ reading. reading.number) (of_batch_same entries batch i)))
+
+  packs_same : (batch : Name) (after : ℕ)
+      → packs_after bare batch after ≡ packs_after entries batch after
+  packs_same batch after =
+      λ i. record { packs = filter_map (λ pack. pack_same pack i) (numbers_same batch after i) }
+
   lane_view_same : (lane : ℕ) → lane_view bare lane ≡ lane_view entries lane
   lane_view_same lane =
       λ i. record {
@@ -175,3 +187,6 @@ module _ (entries : List Entry) where
   question_same question.Summary hides = λ i. Ok (SummaryIs (summary_same i))
   question_same (question.Rows after) hides = absurd (cc)
   question_same (question.Shipment after) hides = absurd (cc)
+  question_same (question.Packs batch after) hides =
+      λ i. cond (is_none (product_same entries batch i)) (Err BatchUnknown)
+      (Ok (PacksAre (packs_same batch after i)))

@@ -57,12 +57,15 @@ segments_more [] rest h = refl
 segments_more (b ∷ word) rest h =
     rw (free_head b word h, segments_more word rest (free_tail b word h)) refl
 
+pub segments_cut : (p : List ℕ) (c : Cut p) → segments p ≡ c.word ∷ segments c.rest
+segments_cut p c = ap segments c.whole ∙ segments_more c.word c.rest c.free
+
 -- there is a segment
 pub segments_some : (p : List ℕ)
     → (first : List ℕ) × (others : List (List ℕ)) × (segments p ≡ first ∷ others)
 segments_some p = elim (cut p) [
   | inl h ↦ (p, [], segments_one p h)
-  | inr c ↦ (c.word, segments c.rest, ap segments c.whole ∙ segments_more c.word c.rest c.free)
+  | inr c ↦ (c.word, segments c.rest, segments_cut p c)
 ]
 
 pub slash_in : (word rest : List ℕ) → has_slash (word ++ slash ∷ rest) ≡ true

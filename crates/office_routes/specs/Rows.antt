@@ -6,9 +6,9 @@ use Rattle.matchit.specs.Route.{Scan}
 use Rattle.matchit.specs.Router.{RouteOf, nearest, route_from}
 use Rattle.matchit.specs.Rows.{RowsOf, param_token}
 use Rattle.office_routes.specs.declared.spot.Spot.{Spot}
-use Rattle.office_routes.specs.declared.spot.Spot.TheVariants.{Acts, Rows, Shipment, Summary, Sheet, Sample, Pack, Lane}
+use Rattle.office_routes.specs.declared.spot.Spot.TheVariants.{Acts, Rows, Shipment, Summary, Sheet, Sample, Pack, Lane, Packs}
 
--- a row: its pattern, with one token for a parameter; its text, and where in it the name stands
+-- a row: its pattern, with one token for a parameter; its text, and where in it the names stand
 
 abbrev pub acts_row : RouteOf Spot
 acts_row = record { pattern = codes "/acts"; text = codes "/acts"; names = []; value = Acts }
@@ -41,6 +41,14 @@ sample_row = record {
   value = Sample;
 }
 
+abbrev pub packs_row : RouteOf Spot
+packs_row = record {
+  pattern = codes "/batches/" ++ param_token ∷ (codes "/packs/" ++ param_token ∷ []);
+  text = codes "/batches/{name}/packs/{number}";
+  names = (10, 14) ∷ (23, 29) ∷ [];
+  value = Packs;
+}
+
 abbrev pub pack_row : RouteOf Spot
 pack_row = record {
   pattern = codes "/packs/" ++ param_token ∷ [];
@@ -65,11 +73,12 @@ shipment_row = record {
   value = Shipment;
 }
 
--- the eight routes, in the order of rows
+-- the nine routes, in the order of rows
 abbrev pub office_rows : RowsOf (RouteOf Spot)
 office_rows =
     (rows_row.pattern, rows_row)
     ∷ (acts_row.pattern, acts_row)
+    ∷ (packs_row.pattern, packs_row)
     ∷ (sample_row.pattern, sample_row)
     ∷ (sheet_row.pattern, sheet_row)
     ∷ (lane_row.pattern, lane_row)

@@ -34,22 +34,27 @@ impl Routes {
         Ok(Routes { router })
     }
 
-    /// What is found at a path, and the text of its parameter: empty where it has none.
-    pub fn find<'p>(&self, path: &'p str) -> Option<(Spot, &'p str)>
-        ensures { option_map (λ found. (found.0, found.1.now)) result ≡ find path.now }
+    /// What is found at a path, and the texts of its two parameters: empty where it has none, or
+    /// one alone.
+    pub fn find<'p>(&self, path: &'p str) -> Option<(Spot, &'p str, &'p str)>
+        ensures { option_map (λ found. (found.0, found.1.now, found.2.now)) result ≡ find path.now }
     {
         let Ok(found) = self.router.at(path) else {
             return None;
         };
         let spot = *found.value;
-        match found.params.iter().next() {
-            Some((_, text)) => Some((spot, text)),
-            None => Some((spot, "")),
-        }
+        let mut texts = found.params.iter();
+        let Some((_, text)) = texts.next() else {
+            return Some((spot, "", ""));
+        };
+        let Some((_, more)) = texts.next() else {
+            return Some((spot, text, ""));
+        };
+        Some((spot, text, more))
     }
 }
 
-// The eight routes, each with what is found there.
+// The nine routes, each with what is found there.
 fn router_of(alloc: Global) -> Result<Router<Spot>, AllocError>
     ensures { IfOk result (λ router. router ≡ office_rows) }
 {
@@ -59,6 +64,7 @@ fn router_of(alloc: Global) -> Result<Router<Spot>, AllocError>
     add(&mut router, "/summary", Spot::Summary)?;
     add(&mut router, "/batches/{name}", Spot::Sheet)?;
     add(&mut router, "/batches/{name}/sample", Spot::Sample)?;
+    add(&mut router, "/batches/{name}/packs/{number}", Spot::Packs)?;
     add(&mut router, "/packs/{number}", Spot::Pack)?;
     add(&mut router, "/lanes/{number}", Spot::Lane)?;
     add(&mut router, "/rows/{number}", Spot::Shipment)?;

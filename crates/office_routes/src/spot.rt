@@ -13,6 +13,8 @@ pub enum Spot {
     Sheet,
     /// `/batches/{name}/sample`: the sample of a batch.
     Sample,
+    /// `/batches/{name}/packs/{number}`: the packs of a batch above a number, a page of them.
+    Packs,
     /// `/packs/{number}`: a pack.
     Pack,
     /// `/lanes/{number}`: a lane.

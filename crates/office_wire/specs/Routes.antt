@@ -1,9 +1,10 @@
 -- What is found at the target of a request. The target is a text of UTF-8 by the grammar of a head.
 use Rattle.std.specs.Prelude.{ℕ, ◌^◌, ◌-◌, ◌==◌, ◌&&◌, List, [], ◌∷◌, if◌then◌else◌, Option, Some, None, option_map, codes}
 use Rattle.std.specs.List.{before_first, slice_split}
+use Rattle.std.specs.Option.{option_and_then}
 use Rattle.std.specs.Str.{bytes_eq}
 use Rattle.hall_units.specs.Number.{bounded_number}
-use Rattle.book_words.specs.declared.act.Question.TheVariants.{Sheet, Pack, Lane, Sample, Summary, Rows, Shipment}
+use Rattle.book_words.specs.declared.act.Question.TheVariants.{Sheet, Pack, Lane, Sample, Summary, Rows, Shipment, Packs}
 use Rattle.book_words.specs.Names.{name_of}
 use Rattle.office_wire.specs.declared.types.Route.{Route}
 use Rattle.office_wire.specs.declared.types.Route.TheVariants.{Acts, Question}
@@ -46,7 +47,7 @@ abbrev pub lane_route : List ℕ → Option Route
 lane_route number =
     option_map (λ lane. Question (Lane lane)) (bounded_number 20 (2 ^ 8 - 1) number)
 
--- a number of rows: 1 to 20 digits, and no more than 32 bits hold
+-- a number of rows, or of a pack: 1 to 20 digits, and no more than 32 bits hold
 abbrev pub row_count : List ℕ → Option ℕ
 row_count number = bounded_number 20 (2 ^ 32 - 1) number
 
@@ -57,6 +58,12 @@ rows_route number = option_map (λ after. Question (Rows after)) (row_count numb
 -- `/rows/{number}`
 abbrev pub shipment_route : List ℕ → Option Route
 shipment_route number = option_map (λ after. Question (Shipment after)) (row_count number)
+
+-- `/batches/{name}/packs/{number}`: 1 to 20 digits, and no more than 32 bits hold
+abbrev pub packs_route : List ℕ → List ℕ → Option Route
+packs_route name number =
+    option_and_then (λ batch. option_map (λ after. Question (Packs batch after)) (row_count number))
+    (name_of name)
 
 -- a word, and what is looked for
 abbrev pub part_route : List ℕ → List ℕ → Option Route
@@ -75,11 +82,19 @@ detail_route word part detail =
     then sample_route part
     else None
 
+-- a word, what is looked for, what of it, and a number
+abbrev pub page_route : List ℕ → List ℕ → List ℕ → List ℕ → Option Route
+page_route word part detail number =
+    if (bytes_eq word (codes "batches") && bytes_eq detail (codes "packs"))
+    then packs_route part number
+    else None
+
 -- what is found at the segments of a path; before its first `/` there is nothing
 abbrev pub segments_route : List (List ℕ) → Option Route
 segments_route ([] ∷ word ∷ []) = word_route word
 segments_route ([] ∷ word ∷ part ∷ []) = part_route word part
 segments_route ([] ∷ word ∷ part ∷ detail ∷ []) = detail_route word part detail
+segments_route ([] ∷ word ∷ part ∷ detail ∷ number ∷ []) = page_route word part detail number
 segments_route _ = None
 
 -- what is found at a target

@@ -1,5 +1,5 @@
 ghost use Rattle.std.specs.Prelude.{◌≡◌};
-ghost use Rattle.office_wire.specs.Routes.{path_of, sheet_route, sample_route, pack_route, lane_route, row_count, rows_route, shipment_route, route_of};
+ghost use Rattle.office_wire.specs.Routes.{path_of, sheet_route, sample_route, pack_route, lane_route, row_count, rows_route, shipment_route, packs_route, route_of};
 ghost use Rattle.office_wire.specs.Spots.{spot_route};
 
 use crate::types::Route;
@@ -14,8 +14,8 @@ const NUMBER_DIGITS: usize = 20;
 pub fn route_of(routes: &Routes, target: &str) -> Option<Route>
     ensures { result ≡ route_of target.now }
 {
-    let (spot, text) = routes.find(path_of(target))?;
-    spot_route(spot, text.as_bytes())
+    let (spot, text, more) = routes.find(path_of(target))?;
+    spot_route(spot, text.as_bytes(), more.as_bytes())
 }
 
 // The path of a target.
@@ -28,9 +28,9 @@ fn path_of(target: &str) -> &str
     }
 }
 
-// What a spot is with the text of its parameter.
-fn spot_route(spot: Spot, text: &[u8]) -> Option<Route>
-    ensures { result ≡ spot_route spot text.now }
+// What a spot is with the texts of its parameters.
+fn spot_route(spot: Spot, text: &[u8], more: &[u8]) -> Option<Route>
+    ensures { result ≡ spot_route spot text.now more.now }
 {
     match spot {
         Spot::Acts => Some(Route::Acts),
@@ -41,6 +41,7 @@ fn spot_route(spot: Spot, text: &[u8]) -> Option<Route>
         Spot::Lane => lane_route(text),
         Spot::Rows => rows_route(text),
         Spot::Shipment => shipment_route(text),
+        Spot::Packs => packs_route(text, more),
     }
 }
 
@@ -76,7 +77,7 @@ fn lane_route(number: &[u8]) -> Option<Route>
     Some(Route::Question(Question::Lane { lane: lane as u8 }))
 }
 
-// A number of rows.
+// A number of rows, or of a pack.
 fn row_count(number: &[u8]) -> Option<u32>
     ensures { result ≡ row_count number.now }
 {
@@ -98,4 +99,13 @@ fn shipment_route(number: &[u8]) -> Option<Route>
 {
     let after = row_count(number)?;
     Some(Route::Question(Question::Shipment { after }))
+}
+
+// `/batches/{name}/packs/{number}`.
+fn packs_route(name: &[u8], number: &[u8]) -> Option<Route>
+    ensures { result ≡ packs_route name.now number.now }
+{
+    let batch = Name::new(name)?;
+    let after = row_count(number)?;
+    Some(Route::Question(Question::Packs { batch, after }))
 }

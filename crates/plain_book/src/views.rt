@@ -11,8 +11,9 @@ use crate::tables::error_of;
 use crate::taken::NoMemory;
 use crate::verdicts::{defectives, verdict_of};
 use book_words::{
-    Act, ActList, ActView, BatchState, Entry, LaneView, MAX_PAGE, Name, PackView, Question,
-    Refusal, Reply, RowsView, SampleView, Sheet, SummaryView, TestView, Verdict,
+    Act, ActList, ActView, BatchState, Entry, LaneView, MAX_PAGE, Name, PackList, PackView,
+    PacksView, Question, Refusal, Reply, RowsView, SampleView, Sheet, SummaryView, TestView,
+    Verdict,
 };
 use pack_judge::{Pile, Tally};
 use sample_draw::Picks;
@@ -278,6 +279,46 @@ fn rows_view(alloc: Global, entries: &[Entry], after: u32) -> Result<RowsView, N
     })
 }
 
+// The page of the packs of a batch above a number.
+fn packs_view(
+    alloc: Global,
+    entries: &[Entry],
+    batch: Name,
+    after: u32,
+) -> Result<PacksView, NoMemory> {
+    let mut packs = Vec::new(alloc);
+    for number in after..count_of(entries.len()) {
+        let view = pack_view(alloc, entries, number.saturating_add(1))?;
+        push_of_batch(&mut packs, view, batch)?;
+    }
+    Ok(PacksView {
+        packs: PackList::from(packs),
+    })
+}
+
+// Adds a pack to a page that isn't full, where it is one of the batch.
+fn push_of_batch(
+    packs: &mut Vec<PackView>,
+    view: Option<PackView>,
+    batch: Name,
+) -> Result<(), NoMemory> {
+    match view {
+        Some(view) if view.batch == batch && packs.len() < MAX_PAGE as usize => {
+            packs.push(view)?;
+            Ok(())
+        }
+        _ => Ok(()),
+    }
+}
+
+fn tell_packs(alloc: Global, entries: &[Entry], batch: Name, after: u32) -> Result<Told, NoMemory> {
+    if opening_of(entries, batch).is_none() {
+        return Ok(Err(Refusal::BatchUnknown));
+    }
+    let view = packs_view(alloc, entries, batch, after)?;
+    Ok(Ok(Reply::PacksAre(view)))
+}
+
 /// What a question is told.
 pub fn tell(alloc: Global, entries: &[Entry], question: &Question) -> Result<Told, NoMemory> {
     match *question {
@@ -296,5 +337,6 @@ pub fn tell(alloc: Global, entries: &[Entry], question: &Question) -> Result<Tol
         Question::Shipment { after } => {
             Ok(Ok(Reply::ShipmentIs(rows_view(alloc, entries, after)?)))
         }
+        Question::Packs { batch, after } => tell_packs(alloc, entries, batch, after),
     }
 }

@@ -268,7 +268,7 @@ impl Draws {
     /// Any question, which nobody's desk asks.
     pub fn any_question(&mut self, entries: &[Entry]) -> Ask {
         let batch = self.batch();
-        let question = match self.below(7) {
+        let question = match self.below(8) {
             0 => Question::Sheet { batch },
             1 => Question::Pack {
                 pack: self.row(entries),
@@ -281,7 +281,11 @@ impl Draws {
             5 => Question::Rows {
                 after: self.row(entries),
             },
-            _ => Question::Shipment {
+            6 => Question::Shipment {
+                after: self.row(entries),
+            },
+            _ => Question::Packs {
+                batch,
                 after: self.row(entries),
             },
         };

@@ -14,22 +14,23 @@ pub const VERDICTS: usize = 40;
 /// Of the withheld: contents, mean, average, allowance, inadequate.
 const FAILS: usize = 43;
 
-/// Answers to questions: sheet, pack, lane, sample, summary, rows, shipment.
+/// Answers to questions: sheet, pack, lane, sample, summary, rows, shipment,
+/// packs.
 const VIEWS: usize = 48;
 
 /// Repeats: of a closing, and of another act.
-const REPEATS: usize = 55;
+const REPEATS: usize = 56;
 
 /// Draws that were accepted: of packs that are kept, that are destroyed, and second ones.
-pub const DRAWS: usize = 57;
+pub const DRAWS: usize = 58;
 
 // A place behind all kinds, and so the number of places.
-const NOWHERE: usize = 60;
+const NOWHERE: usize = 61;
 
 /// How often each kind of answer came.
 #[derive(Clone, Copy)]
 pub struct Met {
-    pub counts: [u32; 60],
+    pub counts: [u32; 61],
 }
 
 fn place_of_signal(signal: &Signal) -> usize {
@@ -45,8 +46,8 @@ fn place_of_signal(signal: &Signal) -> usize {
 fn place_of_draw(act: &Act) -> usize {
     match act {
         Act::Draw { mode, .. } if *mode == Mode::Keep => DRAWS,
-        Act::Draw { .. } => 58,
-        Act::DrawSecond { .. } => 59,
+        Act::Draw { .. } => 59,
+        Act::DrawSecond { .. } => 60,
         _ => NOWHERE,
     }
 }
@@ -60,6 +61,7 @@ fn place_of_view(reply: &Reply) -> usize {
         Reply::SummaryIs(_) => 52,
         Reply::RowsAre(_) => 53,
         Reply::ShipmentIs(_) => 54,
+        Reply::PacksAre(_) => 55,
         _ => NOWHERE,
     }
 }
@@ -67,12 +69,12 @@ fn place_of_view(reply: &Reply) -> usize {
 impl Met {
     /// Nothing was answered yet.
     pub fn nothing() -> Met {
-        Met { counts: [0; 60] }
+        Met { counts: [0; 61] }
     }
 
     // Counts one at a place; behind the end nothing.
     fn count(&mut self, place: usize) {
-        if place < 60 {
+        if place < 61 {
             self.counts[place] = self.counts[place].saturating_add(1);
         }
     }
@@ -115,7 +117,7 @@ impl Met {
             Want::Question(_) => self.count(place_of_view(&answered.reply)),
             Want::Act(_) if answered.at == rows => match answered.reply {
                 Reply::Closed { .. } => self.count(REPEATS),
-                _ => self.count(56),
+                _ => self.count(57),
             },
             Want::Act(act) => self.note_new(act, &answered.reply),
         }
@@ -128,7 +130,7 @@ impl Met {
 
     /// The place of a kind that didn't come.
     pub fn missing(&self) -> Option<usize> {
-        for place in 1..60usize {
+        for place in 1..61usize {
             if self.counts[place] == 0 {
                 return Some(place);
             }

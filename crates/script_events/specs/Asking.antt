@@ -15,7 +15,7 @@ use Rattle.book_words.specs.Answers.{answer, added}
 use Rattle.book_words.specs.Soundness.{IsAnswer, IsRefusal}
 use Rattle.script_lines.specs.declared.command.Command.{Command}
 use Rattle.script_lines.specs.declared.command.Verb.{Verb}
-use Rattle.script_lines.specs.declared.command.Verb.TheVariants.{Day, Product, Tare, Open, Start, Weigh, Stop, Void, End, Draw, Measure, Second, Close, Sheet, Pack, Lane, Sample, Summary, Acts}
+use Rattle.script_lines.specs.declared.command.Verb.TheVariants.{Day, Product, Tare, Open, Start, Weigh, Stop, Void, End, Draw, Measure, Second, Close, Sheet, Pack, Lane, Sample, Summary, Acts, Packs}
 use Rattle.store_runs.specs.Books.{BookState}
 
 -- the number that the entries of a script bear
@@ -50,6 +50,7 @@ want_at entries (Lane lane) = want.Question (question.Lane lane)
 want_at entries (Sample batch) = want.Question (question.Sample batch)
 want_at entries Summary = want.Question question.Summary
 want_at entries (Acts after) = want.Question (question.Rows after)
+want_at entries (Packs batch after) = want.Question (question.Packs batch after)
 
 -- what a command asks the book
 abbrev pub ask_at : List Entry → Command → Ask

@@ -120,6 +120,7 @@ fn want_at(book: &Book, verb: Verb) -> Want
         Verb::Sample { batch } => Want::Question(Question::Sample { batch }),
         Verb::Summary => Want::Question(Question::Summary),
         Verb::Acts { after } => Want::Question(Question::Rows { after }),
+        Verb::Packs { batch, after } => Want::Question(Question::Packs { batch, after }),
     }
 }
 

@@ -11,7 +11,7 @@ use Rattle.script_lines.specs.declared.lines.TheConstants.{MAX_LINE}
 use Rattle.script_lines.specs.declared.command.Allowed.{Allowed}
 use Rattle.script_lines.specs.declared.command.Command.{Command}
 use Rattle.script_lines.specs.declared.command.Verb.{Verb}
-use Rattle.script_lines.specs.declared.command.Verb.TheVariants.{Day, Product, Tare, Open, Start, Weigh, Stop, Void, End, Draw, Measure, Second, Close, Sheet, Pack, Lane, Sample, Summary, Acts}
+use Rattle.script_lines.specs.declared.command.Verb.TheVariants.{Day, Product, Tare, Open, Start, Weigh, Stop, Void, End, Draw, Measure, Second, Close, Sheet, Pack, Lane, Sample, Summary, Acts, Packs}
 use Rattle.script_lines.specs.declared.command.Line.{Line}
 use Rattle.script_lines.specs.declared.command.Line.TheVariants.{Nothing, Asks, Works, Bad}
 use Rattle.script_lines.specs.Lines.{ended_lines, rest_of, last_line}
@@ -136,6 +136,12 @@ abbrev pub acts_line : List (List ℕ) → Option Verb
 acts_line (number ∷ []) = option_map (λ after. Acts after) (pack_in number)
 acts_line _ = None
 
+-- `packs BATCH PACK`
+abbrev pub packs_line : List (List ℕ) → Option Verb
+packs_line (batch ∷ number ∷ []) =
+    from_both (λ asked after. Packs asked after) (name_of batch) (pack_in number)
+packs_line _ = None
+
 -- the question of a first word and the others, where there is such a question
 abbrev pub question_by : List ℕ → List (List ℕ) → Option Verb
 question_by word others =
@@ -145,7 +151,8 @@ question_by word others =
     else (if bytes_eq word (codes "sample") then sample_line others
     else (if bytes_eq word (codes "summary") then summary_line others
     else (if bytes_eq word (codes "acts") then acts_line others
-    else None)))))
+    else (if bytes_eq word (codes "packs") then packs_line others
+    else None))))))
 
 -- the verb of a first word and the others, where there is such a command and it is allowed
 abbrev pub verb_by : Allowed → List ℕ → List (List ℕ) → Option Verb

@@ -102,6 +102,11 @@ pub enum Verb {
     Acts {
         after: u32,
     },
+    /// `packs BATCH PACK`
+    Packs {
+        batch: Name,
+        after: u32,
+    },
 }
 
 /// What a script may have, beside acts.

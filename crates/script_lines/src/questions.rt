@@ -1,7 +1,7 @@
 ghost use Rattle.std.specs.Prelude.{◌≡◌};
 ghost use Rattle.script_lines.specs.Words.{words_of};
 ghost use Rattle.script_lines.specs.Script.{question_by, sheet_line, pack_line, lane_line};
-ghost use Rattle.script_lines.specs.Script.{sample_line, summary_line, acts_line};
+ghost use Rattle.script_lines.specs.Script.{sample_line, summary_line, acts_line, packs_line};
 
 use crate::command::Verb;
 use crate::fields::{read_lane, read_pack};
@@ -24,6 +24,8 @@ pub fn read_question(word: &[u8], rest: &[u8]) -> Option<Verb>
         summary(rest)
     } else if word == b"acts".as_slice() {
         acts(rest)
+    } else if word == b"packs".as_slice() {
+        packs(rest)
     } else {
         None
     }
@@ -82,4 +84,15 @@ fn acts(rest: &[u8]) -> Option<Verb>
     let number = only_word(rest)?;
     let after = read_pack(number)?;
     Some(Verb::Acts { after })
+}
+
+// `packs BATCH PACK`.
+fn packs(rest: &[u8]) -> Option<Verb>
+    ensures { result ≡ packs_line (words_of rest.now) }
+{
+    let (batch, rest) = first_word(rest)?;
+    let number = only_word(rest)?;
+    let batch = Name::new(batch)?;
+    let after = read_pack(number)?;
+    Some(Verb::Packs { batch, after })
 }

@@ -79,10 +79,11 @@ add-requires-8 c =
     )
     refl
 
-pub returns : goal.returns
+pub add-requires-9 : goal.add-requires-9
 unfolding matchit_on_literals
-returns c =
+add-requires-9 c =
     rw (
+      c.in_ok-add-8.ensures,
       c.in_ok-add-7.ensures,
       c.in_ok-add-6.ensures,
       c.in_ok-add-5.ensures,
@@ -92,4 +93,20 @@ returns c =
       c.in_ok-add.ensures,
       c.new-router.ensures,
     )
-    at c.in_ok-add-8.ensures
+    refl
+
+pub returns : goal.returns
+unfolding matchit_on_literals
+returns c =
+    rw (
+      c.in_ok-add-8.ensures,
+      c.in_ok-add-7.ensures,
+      c.in_ok-add-6.ensures,
+      c.in_ok-add-5.ensures,
+      c.in_ok-add-4.ensures,
+      c.in_ok-add-3.ensures,
+      c.in_ok-add-2.ensures,
+      c.in_ok-add.ensures,
+      c.new-router.ensures,
+    )
+    at c.in_ok-add-9.ensures
