@@ -171,7 +171,12 @@ impl Hall {
 
     /// The number behind which a page of a batch, of at most so many packs, isn't that of the plain
     /// list; `None` where none is so.
-    pub fn wrong_page(&self, alloc: Global, batch: u32, most: u32) -> Result<Option<u32>, NoMemory> {
+    pub fn wrong_page(
+        &self,
+        alloc: Global,
+        batch: u32,
+        most: u32,
+    ) -> Result<Option<u32>, NoMemory> {
         for after in 0..self.next {
             let told = self.packs_after(alloc, batch, after, most)?;
             let wanted = plain_page(alloc, &self.packs, batch, after, most)?;

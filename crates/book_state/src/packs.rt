@@ -143,12 +143,7 @@ impl State {
 
     /// The numbers above `after` of the readings of a batch, at most a page of them; none where
     /// there is no such batch. It takes memory for them alone.
-    pub fn packs_after(
-        &self,
-        alloc: Global,
-        batch: &Name,
-        after: u32,
-    ) -> Result<Vec<u32>, NoMemory>
+    pub fn packs_after(&self, alloc: Global, batch: &Name, after: u32) -> Result<Vec<u32>, NoMemory>
         ensures { IfOk result (λ numbers.
             numbers.items ≡ numbers_after self.now.entries batch.now after) }
     {
