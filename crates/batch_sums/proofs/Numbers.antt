@@ -1,13 +1,15 @@
 -- The numbers of packs, and the lists behind a pack that moved.
 use Rattle.std.proofs.Common.{◌≡◌, ℕ, zero, suc, ◌+◌, ◌<◌, ◌≤◌, Bool, true, false, cond, not, ◌||◌, eqb, List, [], ◌∷◌, length, map, get_or, set, Option, Some, refl, ap, sym, subst, ◌∙◌, arith, length-set}
 use Rattle.std.specs.List.{sum_by, list_any, position}
-use Rattle.std.proofs.lemmas.Bool.{eqb-true}
+use Rattle.std.proofs.lemmas.Bool.{eqb-true, ne_eqb}
 use Rattle.std.proofs.lemmas.List.{length-map, map-set, set-get_or, get_or-map}
+use Rattle.std.proofs.lemmas.List.Elements.{All-head, All-tail}
 use Rattle.std.proofs.lemmas.List.Sums.{sum_by-set}
 use Rattle.std.proofs.lemmas.List.Quantifiers.{position-Some}
 use Rattle.pack_groups.specs.declared.batch.Batch.{Batch}
 use Rattle.pack_groups.specs.declared.group.Group.{Group}
 use Rattle.batch_sums.specs.declared.types.Held.{Held}
+use Rattle.batch_sums.specs.declared.types.Pack.{Pack}
 use Rattle.pack_judge.specs.declared.types.Pile.{Pile}
 use Rattle.balanced_tree.specs.declared.tree.Tree.{Tree}
 use Rattle.balanced_tree.specs.Trees.{items}
@@ -15,7 +17,7 @@ use Rattle.pack_groups.specs.Population.{is_counted}
 use Rattle.pack_groups.specs.Groups.{Face, faces, nth_face}
 use Rattle.pack_groups.specs.Index.{IsIndex}
 use Rattle.batch_sums.specs.Kept.{Sound, seen}
-use Rattle.batch_sums.specs.Changes.{is_added}
+use Rattle.batch_sums.specs.Changes.{is_added, IsAbove}
 use Rattle.batch_sums.specs.Invariant.{IsSettled, inside, outside, reaches_of, homes_of}
 use Rattle.batch_sums.proofs.Homes.{homes-seen, map-set_unseen, chained_as}
 use Rattle.batch_sums.proofs.PileMoves.{in_pile}
@@ -26,6 +28,16 @@ pub added_is : (some : List Face) (number : ℕ) (held : List Held)
     ≡ list_any (λ other. eqb number other) (map (λ p. p.number) held)
 added_is some number [] = refl
 added_is some number (h ∷ held) = ap (λ b. eqb number h.number || b) (added_is some number held)
+
+-- a number above those of all packs wasn't added
+pub above_is_new : (number : ℕ) (packs : List Pack) → IsAbove packs number
+    → is_added packs number ≡ false
+above_is_new number [] above = refl
+above_is_new number (pack ∷ packs) above =
+    let first = All-head (λ (p : Pack). p.number < number) pack packs above in
+    ap (λ b. b || is_added packs number)
+    (ne_eqb number pack.number (λ same. omega (arith, first, same)))
+    ∙ above_is_new number packs (All-tail (λ (p : Pack). p.number < number) pack packs above)
 
 -- where a number is found stands its pack
 pub number_at : (places : ℕ → Option ℕ) (held : List Held) (place number : ℕ) (h : Held)

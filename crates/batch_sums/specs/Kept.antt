@@ -37,6 +37,10 @@ belongs some number held = (nth_face some held.group).key.batch == number
 abbrev pub counted_number : Held → List ℕ
 counted_number pack = if is_counted pack.pile then pack.number ∷ [] else []
 
+-- the number of a pack, where it is above one
+abbrev pub number_after : ℕ → Held → List ℕ
+number_after after pack = if nat_lt after pack.number then pack.number ∷ [] else []
+
 -- what one pack adds to the sums of a batch: to the count and the gross of a pile, to the tares of
 -- the population, and to those below a limit
 abbrev pub added_count : List Face → ℕ → Pile → Held → ℕ

@@ -1,9 +1,9 @@
 ghost use Rattle.std.specs.Prelude.{◌≡◌, ℕ, List, pos, find, map, ◌==◌, ◌*◌, max, Some, IsTrue, true, false, ◌≤ℤ◌, ◌+◌, ◌-◌, ◌<◌, ◌≤◌, [], ◌∷◌, ◌++◌, length, IsOk, IfOk, OnOk, OnErr, if◌then◌else◌};
-ghost use Rattle.batch_sums.specs.Kept.{counted_number};
+ghost use Rattle.batch_sums.specs.Kept.{counted_number, number_after};
 ghost use Rattle.pack_groups.specs.Population.{is_counted};
 ghost use Rattle.batch_sums.specs.Totals.{population, left_out, of_batch, kept_totals, kept_limits};
-ghost use Rattle.batch_sums.specs.Asked.{numbers_of, piles_of, concerned_in, chosen_batches, IsLeast, IsLeastWith};
-ghost use Rattle.batch_sums.specs.Changes.{is_added, moved, corrected, concerned, group_count, IsUpTo, IsTareOf, HasFewPerGroup};
+ghost use Rattle.batch_sums.specs.Asked.{numbers_of, numbers_after, piles_of, concerned_in, chosen_batches, IsLeast, IsLeastWith};
+ghost use Rattle.batch_sums.specs.Changes.{IsAbove, is_added, moved, corrected, concerned, group_count, IsUpTo, IsTareOf, HasFewPerGroup};
 
 use crate::pool::{place_of, push_pack, reserve_nodes, reserve_places};
 use crate::types::{Held, NoMemory, Pack};
@@ -154,7 +154,7 @@ impl BatchSums {
         Ok(())
     }
 
-    /// Adds a pack of a batch, with its number, its day since 1970-01-01, its gross and the tare of
+    /// Adds a pack of a batch, with its number, which is above those before, its day since 1970-01-01, its gross and the tare of
     /// its batch and day in mg, and the pile that it lies in.
     ///
     /// It is refused only for want of memory, and never while a place is reserved.
@@ -168,7 +168,7 @@ impl BatchSums {
         pile: Pile,
     ) -> Result<(), NoMemory>
         requires batch { batch < length self.old.batches }
-        requires new { is_added self.old.packs pack ≡ false }
+        requires new { IsAbove self.old.packs pack }
         requires day { IsUpTo MAX_DAY day }
         requires gross { IsUpTo MAX_GROSS gross }
         requires tare { IsUpTo MAX_TARE tare }
@@ -196,7 +196,7 @@ impl BatchSums {
     fn put(&mut self, batch: u32, pack: u32, day: u32, gross: u32, tare: u32, pile: Pile)
         requires room { 0 < self.old.spare }
         requires batch { batch < length self.old.batches }
-        requires new { is_added self.old.packs pack ≡ false }
+        requires new { IsAbove self.old.packs pack }
         requires day { pos day ≤ℤ MAX_DAY }
         requires gross { pos gross ≤ℤ MAX_GROSS }
         requires tare { pos tare ≤ℤ MAX_TARE }
@@ -340,6 +340,32 @@ impl BatchSums {
         Ok(numbers)
     }
 
+    /// The numbers above `after` of the packs of a batch, at most `most` of them, in the order in
+    /// which they were added.
+    pub fn packs_after(
+        &self,
+        alloc: Global,
+        batch: u32,
+        after: u32,
+        most: u32,
+    ) -> Result<Vec<u32>, NoMemory>
+        requires { batch < length self.now.batches }
+        ensures { IfOk result (λ v.
+            v.items ≡ numbers_after after most (of_batch batch self.now.packs)) }
+    {
+        let batch = &self.batches[batch as usize];
+        let mut numbers = Vec::new(alloc);
+        let mut reach = batch.reach;
+        while reach > 0 {
+            let held = &self.packs[reach as usize - 1];
+            note_after(&mut numbers, held, after)?;
+            reach = held.before;
+        }
+        numbers.reverse();
+        numbers.truncate(most as usize);
+        Ok(numbers)
+    }
+
     /// The least number of a batch of a product that is chosen and has a pack on a day of a span,
     /// whatever its pile, and `None` where no batch is so; `chosen` has a flag for each batch. It
     /// takes no memory. Of the batches of the product on each day of the span, by their rising
@@ -379,6 +405,16 @@ fn note(numbers: &mut Vec<u64>, held: &Held) -> Result<(), NoMemory>
 {
     if counts_for_population(held.pile) {
         numbers.push(held.number as u64)?;
+    }
+    Ok(())
+}
+
+// Puts the number of a pack after others where it is above one.
+fn note_after(numbers: &mut Vec<u32>, held: &Held, after: u32) -> Result<(), NoMemory>
+    ensures { OnOk result (numbers.new.items ≡ numbers.old.items ++ number_after after held.now) }
+{
+    if held.number > after {
+        numbers.push(held.number)?;
     }
     Ok(())
 }

@@ -19,7 +19,7 @@ use Rattle.batch_sums.proofs.OnePackMore.{joins_push}
 use Rattle.batch_sums.proofs.PileTallies.{tallied_in, few_lying, light_lying}
 use Rattle.batch_sums.proofs.PileMoves.{gross_at}
 use Rattle.batch_sums.proofs.GroupChanges.{room_for}
-use Rattle.batch_sums.proofs.Numbers.{added_is, not_counts}
+use Rattle.batch_sums.proofs.Numbers.{added_is, above_is_new, not_counts}
 use Rattle.batch_sums.proofs.SoundLemmas.{set_same}
 use Rattle.batch_sums.proofs.ReadyGroups.{entered_from, room_from, chained_with, ready, kept_here, judged_here, few_here, settled_put, packs_put}
 use Rattle.batch_sums.proofs.sums.BatchSums.put.Goals as goal
@@ -253,7 +253,8 @@ invariant_of-self c =
     let pushed : c.push_pack.new.packs.items ≡ held ++ h ∷ [] = c.push_pack.ensures.items in
     let none : list_any (λ other. eqb c.args.pack other) (map (λ (p : Held). p.number) held) ≡ false =
     sym (added_is (faces gs) c.args.pack held)
-    ∙ ap (λ (s : Sums). is_added s.packs c.args.pack) c.self.view_is ∙ c.requires.new in
+    ∙ ap (λ (s : Sums). is_added s.packs c.args.pack) c.self.view_is
+    ∙ above_is_new c.args.pack c.args.self.now.packs c.requires.new in
     let ins : inside c.push_pack.new.packs.items ≡ inside held + cond (is_counted c.args.pile) 1 0 =
     ap inside pushed ∙ sum_by_push (λ p. cond (is_counted p.pile) 1 0) held h in
     let outs : outside c.push_pack.new.packs.items ≡ outside held
