@@ -1,82 +1,74 @@
 -- A walk over the packs of a batch, from the newest to the first.
-use Rattle.std.proofs.Common.{◌≡◌, ℕ, ◌+◌, ◌<◌, ◌≤◌, Bool, true, false, cond, eqb, ltb, List, [], ◌∷◌, ◌++◌, length, map, filter, get_or, take, reverse, refl, ap, sym, ◌∙◌, arith, append_assoc}
+use Rattle.std.proofs.Common.{◌≡◌, ℕ, ◌+◌, ◌<◌, ◌≤◌, Bool, true, false, cond, eqb, List, [], ◌∷◌, ◌++◌, length, map, get_or, take, reverse, refl, ap, sym, ◌∙◌, arith, append_assoc}
 use Rattle.std.proofs.lemmas.Bool.{eq-eqb}
 use Rattle.std.proofs.lemmas.List.{append-nil, map-append, reverse-append, length-map, length-take-le, get_or-map, get_or-take, take-take, take-map, take_more}
 use Rattle.std.proofs.lemmas.List.Elements.{filter-append}
 use Rattle.batch_sums.specs.declared.types.Pack.{Pack}
-use Rattle.batch_sums.specs.Totals.{of_batch}
 use Rattle.pack_groups.specs.Population.{is_counted}
+use Rattle.batch_sums.specs.Totals.{of_batch, population}
 use Rattle.batch_sums.specs.Kept.{reach_of}
 use Rattle.batch_sums.specs.Asked.{numbers_of}
 use Rattle.batch_sums.specs.Invariant.{homes_of}
 use Rattle.batch_sums.proofs.ChainLemmas.{reach-le, reach-take, reach-at, of_batch-reach}
 
--- whether a pack counts for the population, and whether its number is above one
-abbrev pub counts : Pack → Bool
-counts pack = is_counted pack.pile
-
-abbrev pub is_after : ℕ → Pack → Bool
-is_after number pack = ltb number pack.number
-
--- the numbers of those of some packs that are of a batch and meet a test
-abbrev pub numbers_in : (Pack → Bool) → ℕ → List Pack → List ℕ
-numbers_in test batch packs = numbers_of (filter test (of_batch batch packs))
+-- the numbers of those of some packs that count for the population of a batch
+abbrev pub numbers_in : ℕ → List Pack → List ℕ
+numbers_in batch packs = numbers_of (population (of_batch batch packs))
 
 -- a walk has come down to the packs that reach so far, and has the numbers behind them in the other
 -- order
-pub record IsWalked (test : Pack → Bool) (batch : ℕ) (packs : List Pack) (reach : ℕ)
-    (numbers : List ℕ) : Type 0 where
+pub record IsWalked (batch : ℕ) (packs : List Pack) (reach : ℕ) (numbers : List ℕ) : Type 0 where
   pub within : reach ≤ length packs
   pub reached : reach_of batch (take reach (homes_of packs)) ≡ reach
-  pub told : numbers_in test batch (take reach packs) ++ reverse numbers ≡ numbers_in test batch packs
+  pub told : numbers_in batch (take reach packs) ++ reverse numbers ≡ numbers_in batch packs
 
 -- what a pack adds to the numbers
-abbrev pub number_if : (Pack → Bool) → Pack → List ℕ
-number_if test pack = cond (test pack) (pack.number ∷ []) []
+abbrev pub number_if : Pack → List ℕ
+number_if pack = cond (is_counted pack.pile) (pack.number ∷ []) []
 
-numbers-append : (test : Pack → Bool) (batch : ℕ) (xs ys : List Pack)
-    → numbers_in test batch (xs ++ ys) ≡ numbers_in test batch xs ++ numbers_in test batch ys
-numbers-append test batch xs ys =
-    ap (λ ps. map (λ pack. pack.number) (filter test ps))
+numbers-append : (batch : ℕ) (xs ys : List Pack)
+    → numbers_in batch (xs ++ ys) ≡ numbers_in batch xs ++ numbers_in batch ys
+numbers-append batch xs ys =
+    ap (λ ps. map (λ pack. pack.number) (population ps))
     (filter-append (λ pack. eqb pack.batch batch) xs ys)
     ∙ ap (map (λ (pack : Pack). pack.number))
-    (filter-append test (of_batch batch xs) (of_batch batch ys))
-    ∙ map-append (λ (pack : Pack). pack.number) (filter test (of_batch batch xs))
-    (filter test (of_batch batch ys))
+    (filter-append (λ pack. is_counted pack.pile) (of_batch batch xs) (of_batch batch ys))
+    ∙ map-append (λ (pack : Pack). pack.number) (population (of_batch batch xs))
+    (population (of_batch batch ys))
 
-numbers_one : (test : Pack → Bool) (batch : ℕ) (pack : Pack) → pack.batch ≡ batch
-    → numbers_in test batch (pack ∷ []) ≡ number_if test pack
-numbers_one test batch pack own =
-    ap (λ b. map (λ (p : Pack). p.number) (filter test (cond b (pack ∷ []) [])))
-    (eq-eqb pack.batch batch own) ∙ by (test pack)
+numbers_one : (batch : ℕ) (pack : Pack) → pack.batch ≡ batch
+    → numbers_in batch (pack ∷ []) ≡ number_if pack
+numbers_one batch pack own =
+    ap (λ b. map (λ (p : Pack). p.number) (population (cond b (pack ∷ []) [])))
+    (eq-eqb pack.batch batch own) ∙ by (is_counted pack.pile)
   where
     by : (b : Bool) → map (λ (p : Pack). p.number) (cond b (pack ∷ []) []) ≡ cond b (pack.number ∷ []) []
     by true = refl
     by false = refl
 
-reverse_one : (test : Pack → Bool) (pack : Pack) → reverse (number_if test pack) ≡ number_if test pack
-reverse_one test pack = by (test pack)
+reverse_one : (pack : Pack) → reverse (number_if pack) ≡ number_if pack
+reverse_one pack = by (is_counted pack.pile)
   where
     by : (b : Bool) → reverse (cond b (pack.number ∷ []) []) ≡ cond b (pack.number ∷ []) []
     by true = refl
     by false = refl
 
-module _ (test : Pack → Bool) (batch : ℕ) (packs : List Pack) where
+module _ (batch : ℕ) (packs : List Pack) where
   homes_long : length (homes_of packs) ≡ length packs
   homes_long = length-map packs (λ (p : Pack). p.batch)
 
-  pub walk_begun : (reach : ℕ) → reach ≡ reach_of batch (homes_of packs) → IsWalked test batch packs reach []
+  pub walk_begun : (reach : ℕ) → reach ≡ reach_of batch (homes_of packs) → IsWalked batch packs reach []
   walk_begun reach is =
       record {
         within = omega (arith, is, reach-le batch (homes_of packs), homes_long);
         reached = ap (λ n. reach_of batch (take n (homes_of packs))) is
             ∙ reach-take batch (homes_of packs) ∙ sym is;
-        told = append-nil (numbers_in test batch (take reach packs))
-            ∙ ap (λ n. numbers_in test batch (take n packs)) is
-            ∙ ap (λ ps. map (λ pack. pack.number) (filter test ps)) (of_batch-reach batch packs);
+        told = append-nil (numbers_in batch (take reach packs))
+            ∙ ap (λ n. numbers_in batch (take n packs)) is
+            ∙ ap (λ ps. map (λ pack. pack.number) (population ps)) (of_batch-reach batch packs);
       }
 
-  module _ (reach : ℕ) (numbers : List ℕ) (walked : IsWalked test batch packs reach numbers) (place : ℕ)
+  module _ (reach : ℕ) (numbers : List ℕ) (walked : IsWalked batch packs reach numbers) (place : ℕ)
       (is : reach ≡ place + 1) where
     there : place < length packs
     there = omega (arith, is, walked.within)
@@ -95,36 +87,36 @@ module _ (test : Pack → Bool) (batch : ℕ) (packs : List Pack) where
         length-take-le place (homes_of packs) (omega (arith, there, homes_long)),
       )
 
-      rest : numbers_in test batch (take before packs) ≡ numbers_in test batch (take place packs)
+      rest : numbers_in batch (take before packs) ≡ numbers_in batch (take place packs)
       rest =
           let reaches : before ≡ reach_of batch (homes_of (take place packs)) = before_is
           ∙ ap (reach_of batch) (take-map (λ (p : Pack). p.batch) place packs) in
-          ap (numbers_in test batch) (sym (take-take before place packs lower))
-          ∙ ap (λ n. numbers_in test batch (take n (take place packs))) reaches
-          ∙ ap (λ ps. map (λ pack. pack.number) (filter test ps))
+          ap (numbers_in batch) (sym (take-take before place packs lower))
+          ∙ ap (λ n. numbers_in batch (take n (take place packs))) reaches
+          ∙ ap (λ ps. map (λ pack. pack.number) (population ps))
           (of_batch-reach batch (take place packs))
 
     module _ (pack : Pack) (read : get_or packs place pack ≡ pack) (before : ℕ)
         (before_is : before ≡ reach_of batch (take place (homes_of packs))) (more : List ℕ)
-        (more_is : more ≡ numbers ++ number_if test pack) where
+        (more_is : more ≡ numbers ++ number_if pack) where
       of_its : pack.batch ≡ batch
       of_its = sym (ap (λ (p : Pack). p.batch) read)
           ∙ sym (get_or-map (λ (p : Pack). p.batch) packs place pack 0 there) ∙ own
 
-      turned : reverse more ≡ number_if test pack ++ reverse numbers
-      turned = ap reverse more_is ∙ reverse-append numbers (number_if test pack)
-          ∙ ap (λ ns. ns ++ reverse numbers) (reverse_one test pack)
+      turned : reverse more ≡ number_if pack ++ reverse numbers
+      turned = ap reverse more_is ∙ reverse-append numbers (number_if pack)
+          ∙ ap (λ ns. ns ++ reverse numbers) (reverse_one pack)
 
-      longer : numbers_in test batch (take reach packs) ≡ numbers_in test batch (take place packs)
-          ++ number_if test pack
+      longer : numbers_in batch (take reach packs) ≡ numbers_in batch (take place packs)
+          ++ number_if pack
       longer =
-          ap (λ n. numbers_in test batch (take n packs)) is
-          ∙ ap (numbers_in test batch) (take_more packs place pack there)
-          ∙ ap (λ p. numbers_in test batch (take place packs ++ p ∷ [])) read
-          ∙ numbers-append test batch (take place packs) (pack ∷ [])
-          ∙ ap (λ ns. numbers_in test batch (take place packs) ++ ns) (numbers_one test batch pack of_its)
+          ap (λ n. numbers_in batch (take n packs)) is
+          ∙ ap (numbers_in batch) (take_more packs place pack there)
+          ∙ ap (λ p. numbers_in batch (take place packs ++ p ∷ [])) read
+          ∙ numbers-append batch (take place packs) (pack ∷ [])
+          ∙ ap (λ ns. numbers_in batch (take place packs) ++ ns) (numbers_one batch pack of_its)
 
-      pub walk_on : IsWalked test batch packs before more
+      pub walk_on : IsWalked batch packs before more
       walk_on =
           record {
             within = omega (arith, lower before before_is, there);
@@ -133,24 +125,11 @@ module _ (test : Pack → Bool) (batch : ℕ) (packs : List Pack) where
                 ∙ ap (λ n. reach_of batch (take n (take place (homes_of packs)))) before_is
                 ∙ reach-take batch (take place (homes_of packs)) ∙ sym before_is;
             told = (λ i. rest before before_is i ++ turned i)
-                ∙ sym (append_assoc (numbers_in test batch (take place packs)) (number_if test pack)
+                ∙ sym (append_assoc (numbers_in batch (take place packs)) (number_if pack)
                 (reverse numbers))
                 ∙ ap (λ ns. ns ++ reverse numbers) (sym longer) ∙ walked.told;
           }
 
-  pub walk_ended : (numbers : List ℕ) → IsWalked test batch packs 0 numbers
-      → reverse numbers ≡ numbers_in test batch packs
+  pub walk_ended : (numbers : List ℕ) → IsWalked batch packs 0 numbers
+      → reverse numbers ≡ numbers_in batch packs
   walk_ended numbers walked = walked.told
-
--- the numbers above one, of the packs or among the numbers
-pub after_is : (after : ℕ) (packs : List Pack)
-    → numbers_of (filter (is_after after) packs) ≡ filter (ltb after) (numbers_of packs)
-after_is after [] = refl
-after_is after (pack ∷ packs) =
-    elim (ltb after pack.number) as
-    (λ b. numbers_of (cond b (pack ∷ filter (is_after after) packs) (filter (is_after after) packs))
-    ≡ cond b (pack.number ∷ filter (ltb after) (numbers_of packs))
-    (filter (ltb after) (numbers_of packs))) [
-      | true ↦ ap (λ ns. pack.number ∷ ns) (after_is after packs)
-      | false ↦ after_is after packs
-    ]

@@ -1,111 +1,61 @@
-use Rattle.std.proofs.Common.{◌≡◌, ◌+◌, ◌-◌, ◌<◌, length, map, take, get_or, Some, refl, ap, sym, subst, ◌∙◌, arith, rules}
+use Rattle.std.proofs.Common.{◌≡◌, List, take, length, map, Some, refl, ap, sym, subst, ◌∙◌, arith}
+use Rattle.std.specs.Prelude.{IfOk, Result, Ok, Err}
 use Rattle.std.specs.List.{slice_get}
-use Rattle.std.proofs.lemmas.List.{length-map, get_or-map}
-use Rattle.std.proofs.lemmas.Option.{slice_get_read, slice_get-map, get_or_from_slice_get}
-use Rattle.pack_groups.specs.declared.batch.Batch.{Batch}
-use Rattle.batch_sums.specs.declared.types.Held.{Held}
-use Rattle.batch_sums.specs.declared.types.Pack.{Pack}
+use Rattle.std.proofs.lemmas.List.{length-map}
+use Rattle.std.proofs.lemmas.Option.{slice_get_read}
 use Rattle.pack_groups.specs.Groups.{faces}
-use Rattle.batch_sums.specs.Kept.{terms_of, seen, reach_of}
+use Rattle.batch_sums.specs.declared.types.Held.{Held}
 use Rattle.batch_sums.specs.Totals.{Sums, of_batch}
-use Rattle.batch_sums.specs.Invariant.{homes_of, reaches_of}
-use Rattle.batch_sums.proofs.PackWalks.{IsWalked, is_after, after_is, own, lower, walk_begun, walk_on}
+use Rattle.batch_sums.specs.Asked.{numbers_after}
+use Rattle.batch_sums.specs.Chains.{Chain, Reaches, packs_in}
+use Rattle.batch_sums.specs.Kept.{terms_of, seen}
+use Rattle.batch_sums.proofs.ChainLemmas.{of_batch-reach}
+use Rattle.batch_sums.proofs.ChainSteps.{reach_as}
+use Rattle.batch_sums.proofs.Chained.{newest_of, chain_of, reached}
 use Rattle.batch_sums.proofs.sums.BatchSums.packs_after.Goals as goal
 
-pub loop-reach-init : goal.loop-reach-init
-loop-reach-init c =
+if_ok : {T E : Type 0} (P Q : T → Type 0) (r : Result T E) → IfOk r P → ((x : T) → P x → Q x) → IfOk r Q
+if_ok P Q (Ok x) h k = k x h
+if_ok P Q (Err e) h k = tt
+
+pub numbers_behind-requires : goal.numbers_behind-requires
+numbers_behind-requires c =
     let sums = c.self.inside in
     let settled = c.self.invariant.settled in
     let bs = sums.batches.items in
-    let held = sums.packs.items in
+    let fs = faces sums.groups.items in
     let long : length bs ≡ length c.args.self.now.batches = sym (length-map bs terms_of)
     ∙ ap (λ (s : Sums). length s.batches) c.self.view_is in
-    let at : slice_get bs c.args.batch ≡ Some c.index-batch.result.now =
-    slice_get_read bs (length bs) c.args.batch c.index-batch.result.now refl
-    (omega (arith, long, c.requires)) c.index-batch.ensures in
-    let fs = faces sums.groups.items in
-    let packs = map (seen fs) held in
-    let view : packs ≡ c.args.self.now.packs = ap (λ (s : Sums). s.packs) c.self.view_is in
-    let there : c.args.batch < length (reaches_of bs) =
-    omega (arith, length-map bs (λ (b : Batch). b.reach), long, c.requires) in
-    let reach : c.index-batch.result.now.reach ≡ reach_of c.args.batch (homes_of packs) =
-    sym (get_or_from_slice_get (reaches_of bs) c.args.batch c.index-batch.result.now.reach 0
-    (slice_get-map (λ (b : Batch). b.reach) bs c.args.batch ∙ rw at refl))
-    ∙ settled.chained.newest c.args.batch there in
-    subst (λ ps. IsWalked (is_after c.args.after) c.args.batch ps c.index-batch.result.now.reach
-    c.new-numbers.result.items) view
-    (subst (λ ns. IsWalked (is_after c.args.after) c.args.batch packs c.index-batch.result.now.reach ns)
-    (sym c.new-numbers.ensures.items)
-    (walk_begun (is_after c.args.after) c.args.batch packs c.index-batch.result.now.reach reach))
-
-pub loop-reach-smaller : goal.loop-reach-smaller
-loop-reach-smaller c =
-    let sums = c.self.inside in
-    let settled = c.self.invariant.settled in
-    let held = sums.packs.items in
-    let fs = faces sums.groups.items in
-    let packs = map (seen fs) held in
-    let view : packs ≡ c.args.self.now.packs = ap (λ (s : Sums). s.packs) c.self.view_is in
-    let h = c.index-held.result.now in
-    let place = c.loop-reach.reach - 1 in
-    let next : c.loop-reach.reach ≡ place + 1 = omega (arith, c.loop-reach-test.true) in
-    let walked =
-    subst (λ ps. IsWalked (is_after c.args.after) c.args.batch ps c.loop-reach.reach c.loop-reach.numbers.items)
-    (sym view) c.loop-reach.invariant in
-    let within : place < length held = omega (arith, next, walked.within, length-map held (seen fs)) in
-    let read : get_or held place h ≡ h = sym c.index-held.ensures in
-    let home : get_or (homes_of packs) place 0 ≡ c.args.batch =
-    own (is_after c.args.after) c.args.batch packs c.loop-reach.reach c.loop-reach.numbers.items walked place next in
-    let before : h.before ≡ reach_of c.args.batch (take place (homes_of packs)) =
-    ap (λ (p : Held). p.before) (sym read)
-    ∙ sym (get_or-map (λ (p : Held). p.before) held place h 0 within)
-    ∙ settled.chained.before place
-    (omega (arith, within, length-map packs (λ (p : Pack). p.batch), length-map held (seen fs)))
-    ∙ ap (λ n. reach_of n (take place (homes_of packs))) home in
-    omega (
-      arith,
-      lower (is_after c.args.after) c.args.batch packs c.loop-reach.reach c.loop-reach.numbers.items walked
-          place next h.before before,
-      next,
-    )
-
-pub loop-reach-preserved : goal.loop-reach-preserved
-loop-reach-preserved c =
-    let sums = c.self.inside in
-    let settled = c.self.invariant.settled in
-    let bs = sums.batches.items in
-    let held = sums.packs.items in
-    let fs = faces sums.groups.items in
-    let packs = map (seen fs) held in
-    let view : packs ≡ c.args.self.now.packs = ap (λ (s : Sums). s.packs) c.self.view_is in
-    let h = c.index-held.result.now in
-    let place = c.loop-reach.reach - 1 in
-    let next : c.loop-reach.reach ≡ place + 1 = omega (arith, c.loop-reach-test.true) in
-    let walked =
-    subst (λ ps. IsWalked (is_after c.args.after) c.args.batch ps c.loop-reach.reach c.loop-reach.numbers.items)
-    (sym view) c.loop-reach.invariant in
-    let within : place < length held = omega (arith, next, walked.within, length-map held (seen fs)) in
-    let read : get_or held place h ≡ h = sym c.index-held.ensures in
-    let shown : get_or packs place (seen fs h) ≡ seen fs h =
-    get_or-map (seen fs) held place h (seen fs h) within ∙ ap (seen fs) read in
-    let home : get_or (homes_of packs) place 0 ≡ c.args.batch =
-    own (is_after c.args.after) c.args.batch packs c.loop-reach.reach c.loop-reach.numbers.items walked place next in
-    let before : h.before ≡ reach_of c.args.batch (take place (homes_of packs)) =
-    ap (λ (p : Held). p.before) (sym read)
-    ∙ sym (get_or-map (λ (p : Held). p.before) held place h 0 within)
-    ∙ settled.chained.before place
-    (omega (arith, within, length-map packs (λ (p : Pack). p.batch), length-map held (seen fs)))
-    ∙ ap (λ n. reach_of n (take place (homes_of packs))) home in
-    subst (λ ps. IsWalked (is_after c.args.after) c.args.batch ps h.before c.note_after.new.numbers.items) view
-    (walk_on (is_after c.args.after) c.args.batch packs c.loop-reach.reach c.loop-reach.numbers.items walked place next
-    (seen fs h) shown h.before before c.note_after.new.numbers.items (search rules))
+    let at : slice_get bs c.args.batch ≡ Some c.index.result.now =
+    slice_get_read bs (length bs) c.args.batch c.index.result.now refl
+    (omega (arith, long, c.requires)) c.index.ensures in
+    let newest = newest_of bs fs sums.packs.items settled.chained c.args.batch c.index.result.now at in
+    reached bs fs sums.packs.items settled.chained c.deref.result.now c.deref.ensures.value
+    settled.rising c.args.batch c.index.result.now.reach newest
 
 pub returns : goal.returns
 returns c =
-    let ended = subst (λ n. IsWalked (is_after c.args.after) c.args.batch c.args.self.now.packs n
-    c.loop-reach.numbers.items)
-    (let end : c.loop-reach.reach ≡ 0 = omega (arith, c.loop-reach-test.false) in end)
-    c.loop-reach.invariant in
-    c.truncate.ensures.items
-    ∙ ap (take c.args.most) (c.reverse.ensures.items ∙ ended.told
-    ∙ after_is c.args.after (of_batch c.args.batch c.args.self.now.packs))
+    let sums = c.self.inside in
+    let settled = c.self.invariant.settled in
+    let bs = sums.batches.items in
+    let held = sums.packs.items in
+    let fs = faces sums.groups.items in
+    let packs = map (seen fs) held in
+    let view : packs ≡ c.args.self.now.packs = ap (λ (s : Sums). s.packs) c.self.view_is in
+    let long : length bs ≡ length c.args.self.now.batches = sym (length-map bs terms_of)
+    ∙ ap (λ (s : Sums). length s.batches) c.self.view_is in
+    let at : slice_get bs c.args.batch ≡ Some c.index.result.now =
+    slice_get_read bs (length bs) c.args.batch c.index.result.now refl
+    (omega (arith, long, c.requires)) c.index.ensures in
+    let reach = c.index.result.now.reach in
+    let newest = newest_of bs fs held settled.chained c.args.batch c.index.result.now at in
+    let chain = chain_of bs fs held settled.chained settled.rising c.args.batch in
+    let told = subst (λ (ps : List Held). (some : Chain ps) → Reaches ps some reach
+    → IfOk c.numbers_behind.result (λ v. v.items ≡ numbers_after c.args.after c.args.most
+    (of_batch some.batch (take reach (packs_in ps some))))) c.deref.ensures.value
+    c.numbers_behind.ensures chain (reach_as held chain reach newest) in
+    if_ok _ _ c.numbers_behind.result told
+    (λ v is. is ∙ ap (λ n. numbers_after c.args.after c.args.most
+    (of_batch c.args.batch (take n packs))) newest
+    ∙ ap (numbers_after c.args.after c.args.most) (of_batch-reach c.args.batch packs
+    ∙ ap (of_batch c.args.batch) view))

@@ -4,13 +4,14 @@ use Rattle.std.proofs.lemmas.List.{length-map, get_or-map}
 use Rattle.std.proofs.lemmas.Option.{slice_get_read, slice_get-map, get_or_from_slice_get}
 use Rattle.pack_groups.specs.declared.batch.Batch.{Batch}
 use Rattle.batch_sums.specs.declared.types.Held.{Held}
+use Rattle.batch_sums.specs.declared.types.Links.{Links}
 use Rattle.batch_sums.specs.declared.types.Pack.{Pack}
 use Rattle.pack_groups.specs.Groups.{faces}
 use Rattle.batch_sums.specs.Kept.{terms_of, seen, reach_of}
 use Rattle.batch_sums.specs.Totals.{Sums}
 use Rattle.batch_sums.specs.Invariant.{homes_of, reaches_of}
 use Rattle.batch_sums.proofs.BatchTotals.{tared, bounded}
-use Rattle.batch_sums.proofs.PackWalks.{IsWalked, counts, own, lower, walk_begun, walk_on}
+use Rattle.batch_sums.proofs.PackWalks.{IsWalked, own, lower, walk_begun, walk_on}
 use Rattle.batch_sums.proofs.sums.BatchSums.population.Goals as goal
 
 pub population-requires : goal.population-requires
@@ -48,11 +49,11 @@ loop-reach-init c =
     sym (get_or_from_slice_get (reaches_of bs) c.args.batch c.index-batch.result.now.reach 0
     (slice_get-map (λ (b : Batch). b.reach) bs c.args.batch ∙ rw at refl))
     ∙ settled.chained.newest c.args.batch there in
-    subst (λ ps. IsWalked counts c.args.batch ps c.index-batch.result.now.reach
+    subst (λ ps. IsWalked c.args.batch ps c.index-batch.result.now.reach
     c.in_ok-numbers.numbers.items) view
-    (subst (λ ns. IsWalked counts c.args.batch packs c.index-batch.result.now.reach ns)
+    (subst (λ ns. IsWalked c.args.batch packs c.index-batch.result.now.reach ns)
     (sym c.in_ok-numbers.ensures.items)
-    (walk_begun counts c.args.batch packs c.index-batch.result.now.reach reach))
+    (walk_begun c.args.batch packs c.index-batch.result.now.reach reach))
 
 pub loop-reach-smaller : goal.loop-reach-smaller
 loop-reach-smaller c =
@@ -66,22 +67,23 @@ loop-reach-smaller c =
     let place = c.loop-reach.reach - 1 in
     let next : c.loop-reach.reach ≡ place + 1 = omega (arith, c.loop-reach-test.true) in
     let walked =
-    subst (λ ps. IsWalked counts c.args.batch ps c.loop-reach.reach c.loop-reach.numbers.items)
+    subst (λ ps. IsWalked c.args.batch ps c.loop-reach.reach c.loop-reach.numbers.items)
     (sym view) c.loop-reach.invariant in
     let within : place < length held = omega (arith, next, walked.within, length-map held (seen fs)) in
     let read : get_or held place h ≡ h = sym c.index-held.ensures in
     let home : get_or (homes_of packs) place 0 ≡ c.args.batch =
-    own counts c.args.batch packs c.loop-reach.reach c.loop-reach.numbers.items walked place next in
-    let before : h.before ≡ reach_of c.args.batch (take place (homes_of packs)) =
-    ap (λ (p : Held). p.before) (sym read)
-    ∙ sym (get_or-map (λ (p : Held). p.before) held place h 0 within)
-    ∙ settled.chained.before place
-    (omega (arith, within, length-map packs (λ (p : Pack). p.batch), length-map held (seen fs)))
-    ∙ ap (λ n. reach_of n (take place (homes_of packs))) home in
+    own c.args.batch packs c.loop-reach.reach c.loop-reach.numbers.items walked place next in
+    let linked = settled.chained.linked place h.links
+    (omega (arith, within, length-map packs (λ (p : Pack). p.batch), length-map held (seen fs))) in
+    let before : h.links.before ≡ reach_of c.args.batch (take place (homes_of packs)) =
+    ap (λ (p : Held). p.links.before) (sym read)
+    ∙ ap (λ (l : Links). l.before)
+    (sym (get_or-map (λ (p : Held). p.links) held place h h.links within))
+    ∙ linked.before ∙ ap (λ n. reach_of n (take place (homes_of packs))) home in
     omega (
       arith,
-      lower counts c.args.batch packs c.loop-reach.reach c.loop-reach.numbers.items walked
-          place next h.before before,
+      lower c.args.batch packs c.loop-reach.reach c.loop-reach.numbers.items walked
+          place next h.links.before before,
       next,
     )
 
@@ -98,20 +100,21 @@ loop-reach-preserved c =
     let place = c.loop-reach.reach - 1 in
     let next : c.loop-reach.reach ≡ place + 1 = omega (arith, c.loop-reach-test.true) in
     let walked =
-    subst (λ ps. IsWalked counts c.args.batch ps c.loop-reach.reach c.loop-reach.numbers.items)
+    subst (λ ps. IsWalked c.args.batch ps c.loop-reach.reach c.loop-reach.numbers.items)
     (sym view) c.loop-reach.invariant in
     let within : place < length held = omega (arith, next, walked.within, length-map held (seen fs)) in
     let read : get_or held place h ≡ h = sym c.index-held.ensures in
     let shown : get_or packs place (seen fs h) ≡ seen fs h =
     get_or-map (seen fs) held place h (seen fs h) within ∙ ap (seen fs) read in
     let home : get_or (homes_of packs) place 0 ≡ c.args.batch =
-    own counts c.args.batch packs c.loop-reach.reach c.loop-reach.numbers.items walked place next in
-    let before : h.before ≡ reach_of c.args.batch (take place (homes_of packs)) =
-    ap (λ (p : Held). p.before) (sym read)
-    ∙ sym (get_or-map (λ (p : Held). p.before) held place h 0 within)
-    ∙ settled.chained.before place
-    (omega (arith, within, length-map packs (λ (p : Pack). p.batch), length-map held (seen fs)))
-    ∙ ap (λ n. reach_of n (take place (homes_of packs))) home in
-    subst (λ ps. IsWalked counts c.args.batch ps h.before c.note.new.numbers.items) view
-    (walk_on counts c.args.batch packs c.loop-reach.reach c.loop-reach.numbers.items walked place next
-    (seen fs h) shown h.before before c.note.new.numbers.items (search rules))
+    own c.args.batch packs c.loop-reach.reach c.loop-reach.numbers.items walked place next in
+    let linked = settled.chained.linked place h.links
+    (omega (arith, within, length-map packs (λ (p : Pack). p.batch), length-map held (seen fs))) in
+    let before : h.links.before ≡ reach_of c.args.batch (take place (homes_of packs)) =
+    ap (λ (p : Held). p.links.before) (sym read)
+    ∙ ap (λ (l : Links). l.before)
+    (sym (get_or-map (λ (p : Held). p.links) held place h h.links within))
+    ∙ linked.before ∙ ap (λ n. reach_of n (take place (homes_of packs))) home in
+    subst (λ ps. IsWalked c.args.batch ps h.links.before c.note.new.numbers.items) view
+    (walk_on c.args.batch packs c.loop-reach.reach c.loop-reach.numbers.items walked place next
+    (seen fs h) shown h.links.before before c.note.new.numbers.items (search rules))
