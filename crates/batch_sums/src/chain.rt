@@ -1,7 +1,8 @@
-//! The packs of a batch, walked from the newest back. Their links make a list with jumps, which are
-//! long where the digits of its length in skew binary are (Myers, 1983): a pack skips two equal
-//! jumps of the one before it together, where there are such two, and else that one alone. So a
-//! search takes a number of steps that grows with the logarithm of the batch.
+//! The packs of a batch, walked from the newest back. Each is linked with the one before it, and
+//! with one further back, to which a search jumps. The jumps are those of the skew binary numbers
+//! (Myers, 1983): where the two jumps behind the pack before are equally long, a pack jumps over
+//! both, and else to that pack alone. So a search takes a number of steps that grows with the
+//! logarithm of the batch: below 50 in a million packs.
 
 ghost use Rattle.std.specs.Prelude.{◌≡◌, true, false, ◌+◌, ◌-◌, ◌<◌, ◌≤◌, ◌^◌, length, take, drop, slice_index, IfOk};
 ghost use Rattle.batch_sums.specs.Totals.{of_batch};
