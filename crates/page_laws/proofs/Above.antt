@@ -1,6 +1,7 @@
 -- Numbers that ascend, and those of them that are above one.
-use Rattle.std.proofs.Common.{◌≡◌, ℕ, zero, suc, ◌+◌, ◌<◌, ◌≤◌, nat_lt, Bool, true, false, if◌then◌else◌, List, [], ◌∷◌, ◌++◌, take, filter, refl, sym, ◌∙◌, ap, subst, arith}
+use Rattle.std.proofs.Common.{◌≡◌, ℕ, zero, suc, ◌+◌, ◌<◌, ◌≤◌, nat_lt, Bool, true, false, if◌then◌else◌, List, [], ◌∷◌, ◌++◌, length, take, filter, refl, sym, ◌∙◌, ap, subst, arith, length-append}
 use Rattle.std.proofs.lemmas.Bool.Decides.{nat_tests}
+use Rattle.std.proofs.lemmas.List.{nil_from_length}
 use Rattle.book_words.proofs.DrawnPacks.{AscendWithin, ascend-wider}
 
 -- those above one
@@ -109,3 +110,26 @@ pub none_first : (count : ℕ) (numbers : List ℕ) → 0 < count → take count
 none_first zero numbers some h = absurd (omega (arith, some))
 none_first (suc count) [] some h = refl
 none_first (suc count) (number ∷ numbers) some h = absurd (cc)
+
+-- where the first of some are fewer than they may be, they are all
+whole_first : (count : ℕ) (numbers : List ℕ) → length (take count numbers) < count
+    → take count numbers ≡ numbers
+whole_first zero numbers few = absurd (omega (arith, few))
+whole_first (suc count) [] few = refl
+whole_first (suc count) (number ∷ numbers) few =
+    ap (λ ns. number ∷ ns) (whole_first count numbers (omega (arith, few)))
+
+no_more : (some more : List ℕ) → some ++ more ≡ some → more ≡ []
+no_more some more same =
+    let long = sym (length-append some more) ∙ ap length same in
+    nil_from_length more (omega (arith, long))
+
+-- and above the last of them there is none
+pub none_behind : (count after least most : ℕ) (numbers : List ℕ)
+    → AscendWithin least most numbers → length (take count (above after numbers)) < count
+    → above (last_of after (take count (above after numbers))) numbers ≡ []
+none_behind count after least most numbers up few =
+    let page = take count (above after numbers) in
+    no_more page (above (last_of after page) numbers)
+    (page_and_rest count after least most numbers up
+    ∙ sym (whole_first count (above after numbers) few))

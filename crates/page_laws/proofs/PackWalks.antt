@@ -1,6 +1,7 @@
 -- Pages of packs that are asked in turn, joined.
-use Rattle.std.proofs.Common.{◌≡◌, ℕ, Bool, true, false, if◌then◌else◌, List, [], ◌∷◌, ◌++◌, length, filter_map, flat_map, Option, Some, None, is_none, Ok, Err, refl, sym, ◌∙◌, ap, arith}
+use Rattle.std.proofs.Common.{◌≡◌, ℕ, Bool, true, false, if◌then◌else◌, List, [], ◌∷◌, ◌++◌, ◌<◌, length, map, take, filter_map, flat_map, Option, Some, None, is_none, Ok, Err, refl, sym, ◌∙◌, ap, arith}
 use Rattle.std.proofs.lemmas.Grind.{flat_map-append}
+use Rattle.std.proofs.lemmas.List.{length-map}
 use Rattle.std.proofs.lemmas.List.Elements.{All-head, All-tail, All-take, filter_map-append}
 use Rattle.std.proofs.lemmas.Option.{same_Some}
 use Rattle.std.specs.List.{All, cons_option}
@@ -11,6 +12,7 @@ use Rattle.book_words.specs.declared.refusal.Refusal.TheVariants.{BatchUnknown}
 use Rattle.book_words.specs.declared.reply.Reply.{Reply}
 use Rattle.book_words.specs.declared.reply.Reply.TheVariants.{PacksAre}
 use Rattle.book_words.specs.declared.views.PackView.{PackView}
+use Rattle.book_words.specs.declared.views.PacksView.{PacksView}
 use Rattle.book_words.specs.declared.views.TheConstants.{MAX_PAGE}
 use Rattle.book_words.specs.Acts.{product_of}
 use Rattle.book_words.specs.Answers.{IsLegal}
@@ -20,8 +22,8 @@ use Rattle.book_words.specs.Samples.{numbers_of}
 use Rattle.book_words.specs.Views.{pack_view, numbers_after, packs_after, question_told}
 use Rattle.book_words.proofs.DrawnPacks.{AscendWithin, readings_ascend, filter_ascends}
 use Rattle.batch_reports.specs.Texts.{pack_text, reply_text}
-use Rattle.page_laws.specs.PackPages.{last_number, next_after, numbers_above, ArePacksWhole}
-use Rattle.page_laws.proofs.Above.{last_of, page_and_rest, none_first}
+use Rattle.page_laws.specs.PackPages.{last_number, next_after, numbers_above, ArePacksWhole, IsEachPackTold, AreShortPagesLast}
+use Rattle.page_laws.proofs.Above.{last_of, page_and_rest, none_first, none_behind}
 use Rattle.page_laws.proofs.Listed.{number_told, IsTold, each_told}
 
 -- what is told of the packs of some numbers, and its text
@@ -77,6 +79,11 @@ page_is entries batch after reply = by (is_none (product_of entries batch))
     by true h = absurd (cc)
     by false h = cc
 
+-- the packs that a reply tells
+abbrev packs_in : Reply → List PackView
+packs_in (PacksAre view) = view.packs
+packs_in _ = []
+
 module _ (entries : List Entry) (batch : Name) (after : ℕ) (legal : IsLegal entries) where
   abbrev all : List ℕ
   all = numbers_above entries batch after
@@ -99,10 +106,6 @@ module _ (entries : List Entry) (batch : Name) (after : ℕ) (legal : IsLegal en
       none_first MAX_PAGE all (omega arith)
       (none_told entries page page_told
       (sym (ap packs_in (page_is entries batch after (PacksAre (record { packs = [] })) h))))
-    where
-      packs_in : Reply → List PackView
-      packs_in (PacksAre view) = view.packs
-      packs_in _ = []
 
   -- the text of a page, and that of all packs behind its last one
   joined : (reply : Reply) → reply ≡ PacksAre (packs_after entries batch after)
@@ -124,3 +127,72 @@ packs_are_whole entries batch after (reply ∷ replies) legal h =
     ap (λ (t : List ℕ). reply_text reply ++ t)
     (packs_are_whole entries batch (next_after after reply) replies legal h.1)
     ∙ joined entries batch after legal reply (page_is entries batch after reply h.0)
+
+-- ---- none is left out
+
+numbers_told : (entries : List Entry) (numbers : List ℕ) → All (IsTold entries) numbers
+    → map (λ (pack : PackView). pack.pack) (views_of entries numbers) ≡ numbers
+numbers_told entries [] all = refl
+numbers_told entries (number ∷ numbers) all =
+    each (pack_view entries number) (All-head (IsTold entries) number numbers all)
+    (numbers_told entries numbers (All-tail (IsTold entries) number numbers all))
+  where
+    each : (o : Option PackView) → number_told o ≡ Some number
+        → map (λ (pack : PackView). pack.pack) (views_of entries numbers) ≡ numbers
+        → map (λ (pack : PackView). pack.pack) (cons_option o (views_of entries numbers))
+        ≡ number ∷ numbers
+    each None h rest = absurd (cc)
+    each (Some pack) h rest =
+        ap (λ n. n ∷ map (λ (p : PackView). p.pack) (views_of entries numbers))
+        (same_Some pack.pack number h)
+        ∙ ap (λ ns. number ∷ ns) rest
+
+pub each_pack_is_told : IsEachPackTold
+each_pack_is_told entries batch after legal =
+    numbers_told entries (numbers_above entries batch after) (each_told entries batch after legal)
+
+-- ---- a short page is the last
+
+-- where a page of a batch is told, so is another, whatever it is
+page_beside : (entries : List Entry) (batch : Name) (after other : ℕ) (reply : Reply)
+    (view : PacksView) → question_told entries (Packs batch after) ≡ Ok reply
+    → packs_after entries batch other ≡ view
+    → question_told entries (Packs batch other) ≡ Ok (PacksAre view)
+page_beside entries batch after other reply view = by (is_none (product_of entries batch))
+  where
+    by : (b : Bool)
+        → (if b then Err BatchUnknown else Ok (PacksAre (packs_after entries batch after)))
+        ≡ Ok reply → packs_after entries batch other ≡ view
+        → (if b then Err BatchUnknown else Ok (PacksAre (packs_after entries batch other)))
+        ≡ Ok (PacksAre view)
+    by true h is = absurd (cc)
+    by false h is = ap (λ v. Ok (PacksAre v)) is
+
+pub short_pages_are_last : AreShortPagesLast
+short_pages_are_last entries batch after view legal h few =
+    page_beside entries batch after (last_number after view.packs) (PacksAre view)
+    (record { packs = [] }) h
+    (ap (λ ns. record { packs = views_of entries (take MAX_PAGE ns) }) none)
+  where
+    packs : view.packs ≡ views_of entries (numbers_after entries batch after)
+    packs = ap packs_in (page_is entries batch after (PacksAre view) h)
+
+    told : All (IsTold entries) (numbers_after entries batch after)
+    told = page_told entries batch after legal
+
+    short : length (numbers_after entries batch after) < MAX_PAGE
+    short =
+        let same : length (numbers_after entries batch after) ≡ length view.packs =
+        ap length (sym (numbers_told entries (numbers_after entries batch after) told))
+        ∙ length-map (views_of entries (numbers_after entries batch after))
+        (λ (pack : PackView). pack.pack)
+        ∙ sym (ap length packs) in
+        omega (arith, same, few)
+
+    none : numbers_above entries batch (last_number after view.packs) ≡ []
+    none =
+        ap (numbers_above entries batch) (ap (last_number after) packs
+        ∙ last_told entries after (numbers_after entries batch after) told)
+        ∙ none_behind MAX_PAGE after 1 (length entries)
+        (numbers_of (readings_of_batch entries batch))
+        (numbers_ascend entries batch after legal) short

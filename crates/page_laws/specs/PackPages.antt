@@ -1,9 +1,11 @@
 -- What the pages of the packs of a batch are together.
-use Rattle.std.specs.Prelude.{◌≡◌, ℕ, nat_lt, List, [], ◌∷◌, map, filter, filter_map, flat_map, Ok}
+use Rattle.std.specs.Prelude.{◌≡◌, ℕ, ◌<◌, nat_lt, List, [], ◌∷◌, length, map, filter, filter_map, flat_map, Ok}
 use Rattle.book_words.specs.declared.name.Name.{Name}
 use Rattle.book_words.specs.declared.act.Entry.{Entry}
 use Rattle.book_words.specs.declared.act.Question.TheVariants.{Packs}
 use Rattle.book_words.specs.declared.views.PackView.{PackView}
+use Rattle.book_words.specs.declared.views.PacksView.{PacksView}
+use Rattle.book_words.specs.declared.views.TheConstants.{MAX_PAGE}
 use Rattle.book_words.specs.declared.reply.Reply.{Reply}
 use Rattle.book_words.specs.declared.reply.Reply.TheVariants.{PacksAre}
 use Rattle.book_words.specs.Population.{readings_of_batch}
@@ -49,3 +51,19 @@ ArePacksWhole =
     (entries : List Entry) (batch : Name) (after : ℕ) (replies : List Reply)
     → IsLegal entries → AreAskedInTurnOf entries batch after replies
     → flat_map reply_text replies ≡ pack_lines (packs_above entries batch after)
+
+-- A law: over a legal list none of these packs is left out: each is told, under its number.
+abbrev pub IsEachPackTold : Type 0
+IsEachPackTold =
+    (entries : List Entry) (batch : Name) (after : ℕ) → IsLegal entries
+    → map (λ pack. pack.pack) (packs_above entries batch after)
+    ≡ numbers_above entries batch after
+
+-- A law: over a legal list a page with fewer packs than a page may have is the last: behind it the
+-- page is empty.
+abbrev pub AreShortPagesLast : Type 0
+AreShortPagesLast =
+    (entries : List Entry) (batch : Name) (after : ℕ) (view : PacksView)
+    → IsLegal entries → question_told entries (Packs batch after) ≡ Ok (PacksAre view)
+    → length view.packs < MAX_PAGE
+    → AreAskedInTurnOf entries batch (last_number after view.packs) []

@@ -3,7 +3,7 @@
 #![tactic(auto)]
 
 ghost use Rattle.page_laws.specs.Whole.{ArePagesWhole, ArePagesShipped};
-ghost use Rattle.page_laws.specs.PackPages.{ArePacksWhole};
+ghost use Rattle.page_laws.specs.PackPages.{ArePacksWhole, AreShortPagesLast, IsEachPackTold};
 
 /// A law, and no work: pages that are asked one after another, each behind the last row of the one
 /// before, up to the end of the list, have the book as text.
@@ -22,4 +22,14 @@ pub fn pages_are_shipped()
 /// packs of the batch above the number that the first was asked behind.
 pub fn packs_are_whole()
     ensures { ArePacksWhole }
+{}
+
+/// A law, and no work: over a legal list none of these packs is left out, since each is told.
+pub fn each_pack_is_told()
+    ensures { IsEachPackTold }
+{}
+
+/// A law, and no work: over a legal list a page with fewer packs than a page may have is the last.
+pub fn short_pages_are_last()
+    ensures { AreShortPagesLast }
 {}
