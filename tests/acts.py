@@ -9,12 +9,15 @@ bytes of the rows, by docs/FORMATS.md. Then:
   the first column; so does the text behind N rows over a book that holds the first N;
 - the text behind N rows is the end of the whole text, and nothing behind the last row;
 - `acts N` of a script and `/acts/N` of a hall, each asked behind the last row of the answer before,
-  joined are the text, and `/rows/N` is the shipment of the rows of such an answer.
+  joined are the text, and `/rows/N` is the shipment of the rows of such an answer;
+- `packs B N` of a script and `/batches/B/packs/N` of a hall, of each batch, are the records of the
+  register (`export`) that have this batch and a number above N, 128 at most.
 One drawn book is shipped with a caller that no hall of today names.
 
 usage: tests/acts.py [BOOKS [SEED]]     (HALL names another program than the one that `./hall`
 builds)"""
 
+import csv
 import os
 import random
 import re
@@ -35,8 +38,10 @@ SECONDS = 60
 SETUP = ("@163 1 product P 250\n@163 2 tare P 2025-01-01 10\n@163 3 open L1 P\n@163 4 open L2 P\n")
 DESKS = (110, 111)
 HEAD, MARK = 16, b"AQHSHIP2"
-# How many rows an answer has at most.
+# How many rows, or packs, an answer has at most.
 PAGE = 128
+NO_BATCH = "nobody"
+PACK = ("pack {pack} batch {batch} lane {lane} gross {gross} net {net} {class} {signal} {pile}")
 # A worked day whose script is longer is passed over: each of its rows waits for the disk.
 LONGEST_DAY = 20_000
 # Where a row says who asked it, and the number of a caller that is neither script, lane nor door.
@@ -81,6 +86,21 @@ def slots_of(book):
 
 def without_caller(slot):
     return slot[: BY.start] + bytes(2) + slot[BY.stop :]
+
+
+def batch_of(line):
+    """The batch that an act opens, if any."""
+    verb, *names = re.sub(r"^@\d+ \d+ ", "", line).split()
+    return names[0] if verb == "open" else None
+
+
+def above(packs, after):
+    """Those of some packs whose numbers are above one, a page of them."""
+    return [pack for pack in packs if number_of(pack) > after][:PAGE]
+
+
+def number_of(pack):
+    return int(pack.split()[1])
 
 
 def shipment(slots, after):
@@ -136,11 +156,21 @@ class Program:
             need(found[0] == answers.get(number, found[0]) and found[0].split()[0] == str(number),
                  f"row {number} says {found[0]!r} and was told {answers.get(number)!r}")
         self.check_pages(book, lines, chance)
+        packs = self.packs(book, [line for _, _, line in columns])
         self.check_script(book, lines)
-        self.check_office(book, lines, slots, chance)
+        self.check_script_packs(book, packs, len(lines), chance)
+        self.check_office(book, lines, slots, packs, chance)
         for held in {0, chance.randint(0, len(lines))}:
             self.check_replay(columns, slots, held)
         return columns
+
+    def packs(self, book, acts):
+        """The packs of each batch, as the register has them."""
+        packs = {batch: [] for batch in map(batch_of, acts) if batch}
+        register = self.ask(["export", f"--book={book}"]).decode("ascii")
+        for pack in csv.DictReader(register.splitlines()):
+            packs[pack["batch"]].append(PACK.format_map(pack))
+        return packs
 
     def check_pages(self, book, lines, chance):
         for after in {1, chance.randint(0, len(lines) + 1), len(lines), len(lines) + 1, 1_000_000}:
@@ -154,7 +184,19 @@ class Program:
         need(said[: len(lines)] == lines and said[len(lines)] == f"rows {len(lines)}",
              "a script's pages aren't the text")
 
-    def check_office(self, book, lines, slots, chance):
+    def check_script_packs(self, book, packs, rows, chance):
+        """Pages of packs as a script asks for them, whole batches and drawn ones."""
+        asked, wanted = [f"packs {NO_BATCH} 0"], [f"refused 14 BatchUnknown at {rows}"]
+        for batch, all_of in packs.items():
+            ends = [number_of(all_of[place]) for place in range(PAGE - 1, len(all_of), PAGE)]
+            for after in [0, *ends, *chance.choices(range(rows + 2), k=3), 4_294_967_295]:
+                asked.append(f"packs {batch} {after}")
+                wanted += above(all_of, after)
+        said = self.replayed(book, asked).splitlines()
+        need(said[: len(wanted)] == wanted and said[len(wanted)] == f"rows {rows}",
+             "a script's packs aren't those of the register")
+
+    def check_office(self, book, lines, slots, packs, chance):
         """The pages at a door, and the shipments of their rows."""
         folder = tempfile.mkdtemp(dir=self.folder)
         port = free_ports()
@@ -174,7 +216,24 @@ class Program:
                 text = "".join(f"{line}\n" for line in lines[after : after + PAGE])
                 need(self.asked(link, f"/acts/{after}", len(lines)).decode() == text,
                      f"the page behind {after} is another one")
+            self.check_office_packs(link, packs, len(lines))
         need(hall.wait(SECONDS) == 0, f"the hall ended badly: {hall.said()}")
+
+    def check_office_packs(self, link, packs, rows):
+        """The packs of each batch at a door, each page above the last pack of the one before."""
+        for batch, all_of in packs.items():
+            found, after = [], 0
+            while page := self.asked(link, f"/batches/{batch}/packs/{after}", rows).decode():
+                need(page.count("\n") <= PAGE, f"a page of {page.count(chr(10))} packs")
+                found += page.splitlines()
+                after = number_of(found[-1])
+            need(found == all_of, f"the packs of {batch} at a door aren't those of the register")
+        answer = link.ask(get(f"/batches/{NO_BATCH}/packs/0"))
+        need(answer.status == 409 and answer.json()
+             == {"at": rows, "kept": "", "name": "BatchUnknown", "refused": 14},
+             f"packs of no batch are answered {answer}")
+        answer = link.ask(get("/batches/B1/packs/0").replace(b"GET", b"POST"))
+        need((answer.status, answer.allow) == (405, "GET"), f"a POST is answered {answer}")
 
     def asked(self, link, path, rows):
         """The body of what a door answers, at the length of the book."""

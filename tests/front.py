@@ -16,7 +16,13 @@ from front_changes import check_changes
 from front_walls import check_two_halls, check_transport, check_walls
 from rows import rows_behind
 
-SETUP = "day 2025-03-03\nproduct rice250 250\ntare rice250 2025-03-03 10\nopen A rice250\n"
+# How many rows, or packs, an answer of the office has at most.
+PAGE = 128
+# A batch of more packs than an answer has, whose lines are the longest but for their numbers.
+LONG = "WEIHNACHTSMISCHUNG-2026-12-01-AB"
+SETUP = ("day 2025-03-03\nproduct rice250 250\ntare rice250 2025-03-03 10\nopen A rice250\n"
+         f"open {LONG} rice250\nstart 16 {LONG}\n" + "weigh 16 241.999\n" * (PAGE + 1)
+         + "stop 16\n")
 # A number up to 16 is a lane.
 PEOPLE = {"anna": [101, 102, 1], "ben": [103, 2], "wall": []}
 # Seconds within which the others are mostly answered, whatever the rest does, and always, on a busy
@@ -24,8 +30,6 @@ PEOPLE = {"anna": [101, 102, 1], "ben": [103, 2], "wall": []}
 PROMPT, HELD = 2.0, 8.0
 # Seconds for which the front waits for a free door before it says 502.
 PATIENCE = 10.0
-# How many rows an answer of the office has at most.
-PAGE = 128
 # How many connections a crowd has, and how often each asks; seconds in which it is done, however
 # busy the machine, since the front says 502 behind its patience; and how many questions are
 # answered.
@@ -93,7 +97,11 @@ def check_paths(front):
             ("GET", "/hall/batches/A/sample", 409), ("GET", "/hall/packs/1", 409),
             ("GET", "/hall/acts/0", 200), ("POST", "/hall/acts/0", 405),
             ("GET", "/hall/acts/x", 404), ("GET", "/hall/acts/0/1", 404),
+            ("GET", "/hall/batches/A/packs/0", 200), ("GET", "/hall/batches/B/packs/0", 409),
             ("GET", "/hall/batches/A/packs/x", 404), ("POST", "/hall/batches/A/packs/0", 405),
+            ("GET", "/hall/batches/A/packs", 404), ("GET", "/hall/batches/A/packs/0/0", 404),
+            ("GET", "/hall/batches/A/packs/4294967295", 200),
+            ("GET", "/hall/batches/A/packs/4294967296", 404),
             # shipments are for a standby's own door
             ("GET", "/hall/rows/0", 404), ("POST", "/hall/rows/0", 404),
             ("GET", "/hall/%2e%2e/etc/passwd", 404), ("POST", "/index.html", 403)):
@@ -109,8 +117,18 @@ def anna_again(front):
 
 
 def check_pages(front, program, book):
-    """A page of 128 rows with names of 32 bytes comes through whole."""
+    """A page of 128 packs, and one of 128 rows, with names of 32 bytes come through whole."""
     anna = anna_again(front)
+    packs = [f"pack {number} batch {LONG} lane 16 gross 241.999 net 231.999 inadequate reject"
+             " inadequate rejected\n" for number in range(7, 7 + PAGE + 1)]
+    for above, page in ((0, packs[:PAGE]), (7, packs[1:]), (6 + PAGE, packs[PAGE:]),
+                        (7 + PAGE, [])):
+        reply = anna.send("GET", f"/hall/batches/{LONG}/packs/{above}")
+        expect(reply, 200, f"packs above {above}")
+        need(reply.body.decode("ascii") == "".join(page) and len(page) in (0, 1, PAGE),
+             f"packs above {above}: {len(reply.body)} bytes for {len(''.join(page))}")
+        need("content-type" in reply.fields and reply.fields["content-type"] == "text/plain",
+             f"packs are {reply.fields.get('content-type')}")
     juice = "j" * 32
     expect(anna.act(101, act="product_ml", name=juice, nominal=1000000), 200, "juice")
     rows = int(anna.send("GET", "/hall/summary").fields["book-row"])

@@ -4,10 +4,10 @@
 #
 # Desk 101 sets the day, a product, its tare and a batch; lane 1 weighs 101 packs by a script; the
 # desk voids a pack and loses the answer, asks again, ends the batch, draws it, measures what was
-# drawn, is refused a second sample, closes it and reads its sheet. Then it enters juice, which is
-# sold by volume: a batch of it without its density and one too light are refused, the next is
-# weighed on lane 1, measured whole and closed. At the end its rows are read by the page, as lines
-# and as a shipment. Each request is a connection of its own.
+# drawn, is refused a second sample, closes it and reads its sheet and its packs. Then it enters
+# juice, which is sold by volume: a batch of it without its density and one too light are refused,
+# the next is weighed on lane 1, measured whole and closed. At the end its rows are read by the
+# page, as lines and as a shipment. Each request is a connection of its own.
 #
 # usage: tests/office.sh     (HALL names another program than the one that `./hall` builds)
 set -eu
@@ -30,8 +30,12 @@ serve() {
 # sends an act of desk 101, and says the answer as a script's is said
 act() {
     curl -sS --retry 100 --retry-connrefused --retry-delay 0 \
-        --data "{\"desk\":101,\"request\":$1,\"act\":$2}" $url/acts |
-        sed -E 's/^\{"row":([0-9]+)\}$/\1 ok\n/; s/^\{"row":([0-9]+),"verdict":"(.*)"\}$/\1 \2\n/
+        --data "{\"desk\":101,\"request\":$1,\"act\":$2}" $url/acts | as_script
+}
+
+# what the office says of an act or a refusal, as a script says it
+as_script() {
+    sed -E 's/^\{"row":([0-9]+)\}$/\1 ok\n/; s/^\{"row":([0-9]+),"verdict":"(.*)"\}$/\1 \2\n/
             s/^\{"at":(.*),"kept":"(.*)","name":"(.*)","refused":(.*)\}$/refused \4 \3 \2 at \1\n/
             s/  at/ at/'
 }
@@ -74,7 +78,7 @@ act 3 '"tare","product":"rice250","day":"2025-03-03","tare":10000' >>"$room/http
 act 4 '"open","batch":"A","product":"rice250"' >>"$room/http"
 wait
 weighings A $PACKS 262.000 | "$hall" run --book "$room/office.book" >/dev/null
-serve $((2 + 3 + DRAWN + 2 + 1 + 5))
+serve $((2 + 3 + DRAWN + 2 + 1 + 4 + 5))
 until lose 5 2>/dev/null; do :; done
 act 5 "\"void\",\"pack\":$VOIDED" >>"$room/http"
 act 6 '"end","batch":"A"' >>"$room/http"
@@ -82,6 +86,7 @@ act 7 '"draw","batch":"A","mode":"keep","word":7' >>"$room/http"
 page batches/A/sample >"$room/sample.A"
 measure A 262000 8 >>"$room/http"
 page batches/A >>"$room/http"
+for pack in 0 50 $((PACKS + 5)) 4294967295; do page batches/A/packs/$pack >>"$room/http"; done
 next=$((8 + DRAWN + 1))
 opening=$((next + 2))
 act $next '"product_ml","name":"juice","nominal":1000000' >>"$room/http"
@@ -91,12 +96,13 @@ act $opening '"open_at","batch":"J","product":"juice","density":499999' >>"$room
 act $opening '"open_at","batch":"J","product":"juice","density":1040500' >>"$room/http"
 wait
 weighings J $BOTTLES 1078.250 | "$hall" run --book "$room/office.book" >/dev/null
-serve $((3 + BOTTLES + 2 + 2 + 5))
+serve $((3 + BOTTLES + 2 + 2 + 2 + 5))
 act $((next + 3)) '"end","batch":"J"' >>"$room/http"
 act $((next + 4)) '"draw","batch":"J","mode":"keep","word":5' >>"$room/http"
 page batches/J/sample >"$room/sample.J"
 measure J 1078250 $((next + 5)) >>"$room/http"
 page batches/J >>"$room/http"
+for batch in J N; do page batches/$batch/packs/0; done | as_script >>"$room/http"
 page summary >>"$room/http"
 for after in 0 128 1000000; do page acts/$after >>"$room/acts"; done
 for after in 0 128; do page rows/$after >"$room/rows.$after"; done
@@ -126,6 +132,7 @@ weighings A $PACKS 262.000 | run >/dev/null
     printf '%s\n' "@101 5 void $VOIDED" '@101 6 end A' '@101 7 draw A keep 7'
     measurings A 262 8
     echo sheet A
+    printf '%s\n' 'packs A 0' 'packs A 50' "packs A $((PACKS + 5))" 'packs A 4294967295'
     printf '%s\n' "@101 $next product juice 1000 ml" "@101 $((next + 1)) tare juice 2025-03-03 30" \
         "@101 $opening open J juice" "@101 $opening open J juice 499.999" \
         "@101 $opening open J juice 1040.5"
@@ -134,7 +141,7 @@ weighings J $BOTTLES 1078.250 | run >/dev/null
 {
     printf '%s\n' "@101 $((next + 3)) end J" "@101 $((next + 4)) draw J keep 5"
     measurings J 1078.25 $((next + 5))
-    echo sheet J
+    printf '%s\n' 'sheet J' 'packs J 0' 'packs N 0'
 } | run >>"$room/script"
 
 diff "$room/script" "$room/http"

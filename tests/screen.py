@@ -7,6 +7,7 @@ import sys
 
 from front_room import mount_room
 from screen_changes import run_changes
+from screen_chart import run_chart
 from screen_day import run_day
 from screen_load import run_load
 from screen_pages import run_boards, run_pages
@@ -20,6 +21,7 @@ PARTS = {
     "boards": run_boards,
     "sizes": run_sizes,
     "load": run_load,
+    "chart": run_chart,
     "changes": run_changes,
 }
 

@@ -10,6 +10,8 @@
 #   boards  the same for boards of 1 and 16 lanes, all names of 32 letters
 #   sizes   bytes that each page loads, what the key Tab comes by, no layout shift as packs come
 #   load    the board with 16 lanes at 20 packs a second each, an hour of it, 10 000 packs drawn
+#   chart   a batch of 10 000 packs through the front: from the click to its chart, and to its sheet,
+#           at most a second each; a chart that grows asks for what is new alone
 #   changes a lane changes its batch by the page, the desk and a typed scan, and is refused one
 #
 # usage: tests/screen.sh [PICTURES [PART..]]    HALL names the program; screenshots are left in
@@ -34,7 +36,7 @@ fi
 mkdir -p "$pictures"
 pictures=$(realpath "$pictures")
 chmod 755 "$room"
-[ $# -gt 0 ] || set -- day signs pages boards sizes load changes
+[ $# -gt 0 ] || set -- day signs pages boards sizes load chart changes
 for part; do
     mkdir "$room/$part"
     # the Python for which Debian's selenium is

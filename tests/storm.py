@@ -50,6 +50,10 @@ FAULTS = [
     (get("/"), 404, "path", "", False),
     (get("/packs/4294967296"), 404, "path", "", False),
     (get("/lanes/256"), 404, "path", "", False),
+    (get("/batches/L1/packs/4294967296"), 404, "path", "", False),
+    (get("/batches/L1/packs"), 404, "path", "", False),
+    (get("/batches/L1/packs/0/0"), 404, "path", "", False),
+    (b"POST /batches/L1/packs/0 HTTP/1.1\r\n\r\n", 405, "method", "GET", False),
     (get("/batches/" + "n" * 33), 404, "path", "", False),
     (get("/acts"), 405, "method", "POST", False),
     (b"DELETE /summary HTTP/1.1\r\n\r\n", 405, "method", "GET", False),
@@ -160,6 +164,8 @@ class Visitor(Client):
             ("/summary?now", "rows "), (f"/lanes/{self.draw.randint(1, 16)}", "lane "),
             (f"/batches/L{self.draw.randint(1, LANES)}", "batch "), (f"/batches/{batch}", "batch "),
             (f"/packs/{self.draw.choice(self.packs() or [0])}", "pack "),
+            # (nothing where no pack is above)
+            (f"/batches/L{self.draw.randint(1, LANES)}/packs/{self.draw.randrange(9999)}", ""),
             (f"/batches/{batch}/sample", "sample ")))
         self.sent["questions"] += 1
         version = self.draw.choice((b"HTTP/1.1", b"HTTP/1.1", b"HTTP/1.1", b"HTTP/1.0"))

@@ -21,9 +21,9 @@ from day_texts import read_days
 from rows import rows_behind
 from worked_tables import (
     BOOK, BOOK_PLACES, COPIES, DAMAGED, EMPTY_BATCH, EMPTY_PAPER, FIVE_ROWS, FOLLOWED, FOREIGN,
-    GATE_PRIORS, GATES, IMPORTS, JOURNAL, JOURNALS, LANES, LINES, NEXT_DAY, OPENING, PAPER, PATHS,
-    PIPED, PLANS, PORTS, PRINTED, PROVED, REFUSED_PAPERS, RIGHT_WORDS, SETUPS, SHIPPED, SIXTH_ROW,
-    Step, TRIALS, TRIAL_OF_TWO, USAGE, WRONG_WORDS)
+    GATE_PRIORS, GATES, IMPORTS, JOURNAL, JOURNALS, LANES, LINES, NEXT_DAY, OPENING, PACKS, PAPER,
+    PATHS, PIPED, PLANS, PORTS, PRINTED, PROVED, REFUSED_PAPERS, RIGHT_WORDS, SETUPS, SHIPPED,
+    SIXTH_ROW, Step, TRIALS, TRIAL_OF_TWO, USAGE, WRONG_WORDS)
 
 HERE = os.path.dirname(os.path.realpath(__file__))
 SECONDS = 120
@@ -103,7 +103,7 @@ def words(hall):
 
 
 def lines(hall):
-    for step in LINES:
+    for step in [*LINES, *PACKS]:
         hall.anew()
         hall.do(step)
 

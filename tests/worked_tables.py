@@ -99,6 +99,40 @@ OPENING = b"day 2025-03-03\nproduct rice250 250\ntare rice250 2025-03-03 10\n"
 FIVE_ROWS = Step(["run"], OPENING + b"open A rice250\nstart 1 A\n",
                  numbered(range(1, 6)) + totals(5, batches="1 0 0 0"), 0, 5)
 
+
+
+def passed(numbers):
+    """Packs of batch A that passed, each at 262 g, as a page tells them."""
+    return "".join(f"pack {number} batch A lane 1 gross 262.000 net 252.000 standard pass passed\n"
+                   for number in numbers)
+
+
+# The packs of a batch above a number.
+PACKS = [
+    line(b"packs A 0\npacks A 4294967296\n", "refused 14 BatchUnknown at 0\nbad line 2\n", 3),
+    line(b"packs A\n", "bad line 1\n", 3),
+    line(b"packs A 0 0\n", "bad line 1\n", 3),
+    line(b"@101 1 packs A 0\n", "bad line 1\n", 3),
+    # two batches by turns; a pack that never left, one that is voided, a tare that is corrected
+    line(OPENING + b"open A rice250\nopen B rice250\nstart 1 A\nstart 2 B\npacks A 0\nweigh 2 262\n"
+         b"weigh 1 241.999\nweigh 2 251\nweigh 1 251\npacks B 8\nstop 1 stayed\nstop 2\nvoid 8\n"
+         b"packs A 0\ntare rice250 2025-03-03 12\npacks B 0\npacks A 11\n",
+         numbered(range(1, 8)) + "8 pass\n9 reject inadequate\n10 pass\n11 pass\n"
+         "pack 10 batch B lane 2 gross 251.000 net 241.000 standard pass passed\n"
+         + numbered(range(12, 15))
+         + "pack 9 batch A lane 1 gross 241.999 net 231.999 inadequate reject inadequate rejected\n"
+         "pack 11 batch A lane 1 gross 251.000 net 241.000 standard pass rejected\n15 ok\n"
+         "pack 8 batch B lane 2 gross 262.000 net 250.000 standard pass voided\n"
+         "pack 10 batch B lane 2 gross 251.000 net 239.000 nonstandard pass passed\n"
+         + totals(15, "4 1005.999", "1 251.000", "2 492.999", voided="1 262.000",
+                  batches="2 0 0 0"), 0, 15),
+    # 130 packs, from row 6 on
+    line(OPENING + b"open A rice250\nstart 1 A\n" + b"weigh 1 262\n" * 130
+         + b"packs A 0\npacks A 6\npacks A 7\npacks A 133\npacks A 135\n",
+         numbered(range(1, 6)) + "".join(f"{row} pass\n" for row in range(6, 136))
+         + passed([*range(6, 134), *range(7, 135), *range(8, 136), 134, 135])
+         + totals(135, "130 34060.000", "130 34060.000", batches="1 0 0 0"), 0, 135)]
+
 SIXTH_ROW = Step(["run"], b"weigh 1 251.000\n",
                  "6 pass\n" + totals(6, "1 251.000", "1 251.000", batches="1 0 0 0"), 0, 6)
 

@@ -12,7 +12,7 @@ const state = { rows: 0 };
 
 // A book of fewer rows than were seen is another book: nothing that is kept is of it.
 export function atRows(rows) {
-  if (rows < state.rows) for (const kept of [packs, limits, paged, traces]) kept.clear();
+  if (rows < state.rows) for (const kept of [packs, limits, paged]) kept.clear();
   state.rows = rows;
 }
 
@@ -118,12 +118,11 @@ const UNSETTLED = 2 * MOST_LANES;
 // What was read of batches, of the newest few.
 const MOST_READ = 4;
 const paged = new Map();
-const traces = new Map();
 
-function keep(read, batch, what) {
-  read.delete(batch);
-  read.set(batch, what);
-  if (read.size > MOST_READ) read.delete(read.keys().next().value);
+function keep(batch, found) {
+  paged.delete(batch);
+  paged.set(batch, found);
+  if (paged.size > MOST_READ) paged.delete(paged.keys().next().value);
 }
 
 function isAsTold(sheet, found) {
@@ -134,97 +133,20 @@ function isAsTold(sheet, found) {
     && counted.reduce((sum, pack) => sum + pack.net, 0) === sheet.net;
 }
 
-// The packs of a batch in order of weighing, a page at a time behind those that were read before;
-// nothing where the office has no such pages.
-async function pagedPacks(sheet, progress) {
-  const { readings } = sheet.piles;
-  const found = (paged.get(sheet.batch) ?? []).slice(0, -UNSETTLED);
+// The packs of a batch in order of weighing, a page at a time behind those that were read before.
+export async function packsOf(sheet, progress) {
+  const { batch, piles: { readings } } = sheet;
+  const found = (paged.get(batch) ?? []).slice(0, -UNSETTLED);
   for (let isMore = true; isMore;) {
-    const page = await office.packsBehind(sheet.batch, found.at(-1)?.number ?? 0);
-    if (!page) return null;
+    const page = await office.packsAbove(batch, found.at(-1)?.number ?? 0);
     found.push(...page);
     const has = Math.min(found.length, readings);
     isMore = progress(has, readings, found.at(-1)?.number ?? 0) && page.length === PAGE
       && has < readings;
   }
-  keep(paged, sheet.batch, found);
-  return found.slice(0, readings);
-}
-
-// Where the office has no pages of packs: the acts since the batch was opened, which tell its packs.
-class Trace {
-  constructor(batch) {
-    Object.assign(this, { batch, rows: 0, weighings: new Weighings(), found: new Map(),
-      tares: new Map() });
-  }
-
-  take(acts) {
-    for (const act of acts) this.weighings.take(act);
-    const { fresh, moved, isUnsure } = this.weighings.news();
-    for (const pack of fresh) {
-      if (pack.run.batch === this.batch) this.found.set(pack.number, pack);
-    }
-    for (const [number, pile] of moved) {
-      if (pile && this.found.has(number)) this.found.get(number).pile = pile;
-    }
-    if (isUnsure) this.tares.clear();
-    this.rows = acts.at(-1)?.row ?? this.rows;
-  }
-
-  // Goes on up to a row; at first the acts are read back to where the batch was opened.
-  async read(sheet, progress) {
-    const { rows } = sheet;
-    const isUpTo = ({ row }) => row <= rows;
-    if (this.rows) this.take((await actsBehind(this.rows, Infinity)).acts.filter(isUpTo));
-    else this.take(await actsBack(sheet, progress));
-  }
-
-  async packs(sheet) {
-    const { first, second } = sheet.first ? await office.sample(this.batch)
-      : { first: [], second: [] };
-    const sampled = new Set([...first, ...second]);
-    const bounds = limitsOf(sheet);
-    const found = [];
-    for (const told of this.found.values()) {
-      const pack = packOf(told, await tareFor(this.tares, told), bounds);
-      if (sampled.has(pack.number)) pack.pile = "sampled";
-      found.push(pack);
-    }
-    return found;
-  }
-}
-
-// Pages of acts that are read back at once.
-const BACK = 4;
-
-async function actsBack({ batch, rows, piles: { readings } }, progress) {
-  const parts = [];
-  for (let last = rows; last > 0; last -= BACK * PAGE) {
-    const pages = Array.from({ length: BACK }, (_, at) => last - (at + 1) * PAGE)
-      .filter((after) => after > -PAGE);
-    const read = await Promise.all(pages.map((after) => office.acts(Math.max(0, after), true)));
-    const step = read.map(({ acts }, at) => acts.filter(({ row }) => row <= pages[at] + PAGE));
-    parts.unshift(...step.reverse());
-    const isOpened = step.flat().some(({ words }) => words[0] === "open" && words[1] === batch);
-    if (isOpened || !progress(0, readings, Math.max(0, pages.at(-1)))) break;
-  }
-  return parts.flat();
-}
-
-async function tracedPacks(sheet, progress) {
-  const trace = traces.get(sheet.batch) ?? new Trace(sheet.batch);
-  await trace.read(sheet, progress);
-  const found = await trace.packs(sheet);
-  // one that was stopped on the way is begun anew the next time
-  if (found.length >= sheet.piles.readings) keep(traces, sheet.batch, trace);
-  progress(Math.min(found.length, sheet.piles.readings), sheet.piles.readings, trace.rows);
-  return found.slice(0, sheet.piles.readings);
-}
-
-export async function packsOf(sheet, progress) {
-  const found = await pagedPacks(sheet, progress) ?? await tracedPacks(sheet, progress);
+  keep(batch, found);
   for (const pack of found) packs.set(pack.number, pack);
-  return found;
+  return found.slice(0, readings);
 }
 
 // The packs of a batch as they now lie. Where they don't add up to its sheet, a pack was voided or
@@ -233,6 +155,5 @@ export async function settledPacks(sheet, progress) {
   const found = await packsOf(sheet, progress);
   if (found.length < sheet.piles.readings || isAsTold(sheet, found)) return found;
   paged.delete(sheet.batch);
-  traces.delete(sheet.batch);
   return packsOf(sheet, progress);
 }

@@ -45,12 +45,12 @@ export async function reach(path, options = {}) {
 }
 
 // The answer to a question: `text`, or `refused` with its number, name and what is kept. Other
-// statuses than these are no answer, but for those that are named.
-export async function ask(path, canWait = false, besides = []) {
+// statuses than these are no answer.
+export async function ask(path, canWait = false) {
   await enter(canWait);
   try {
     const answer = await reach(`hall/${path}`);
-    if (![200, 409, ...besides].includes(answer.status)) throw new Missing(String(answer.status));
+    if (![200, 409].includes(answer.status)) throw new Missing(String(answer.status));
     Object.assign(link, { at: Date.now(), why: "" });
     return answer.status === 409 ? { ...answer, ...JSON.parse(answer.text) } : answer;
   } catch (fault) {
@@ -96,19 +96,15 @@ export async function pack(number) {
 }
 
 // The acts behind a row, a page of them, and how many rows the book has.
-export async function acts(after, canWait = false) {
-  const answer = await ask(`acts/${after}`, canWait);
+export async function acts(after) {
+  const answer = await ask(`acts/${after}`);
   return { rows: answer.row, acts: readActs(answer.text) };
 }
 
-// The packs of a batch behind a row, a page of them; nothing where the office knows no such path.
-let hasPages = true;
-
-export async function packsBehind(batch, after) {
-  if (!hasPages) return null;
-  const answer = await ask(`batches/${batch}/packs/${after}`, true, [404]);
-  hasPages = answer.status !== 404;
-  return answer.status === 200 ? readPacks(answer.text) : null;
+// The packs of a batch above a number, a page of them.
+export async function packsAbove(batch, number) {
+  const answer = await ask(`batches/${batch}/packs/${number}`, true);
+  return answer.refused ? [] : readPacks(answer.text);
 }
 
 // The drawn packs in drawing order; none where nothing was drawn.
