@@ -4,7 +4,7 @@
 //! both, and else to that pack alone. So a search takes a number of steps that grows with the
 //! logarithm of the batch: below 50 in a million packs.
 
-ghost use Rattle.std.specs.Prelude.{◌≡◌, true, false, ◌+◌, ◌-◌, ◌<◌, ◌≤◌, ◌^◌, length, take, drop, slice_index, IfOk};
+ghost use Rattle.std.specs.Prelude.{◌≡◌, true, false, ◌+◌, ◌-◌, ◌*◌, ◌<◌, ◌≤◌, ◌^◌, nat_eq, length, take, drop, slice_index, IfOk};
 ghost use Rattle.batch_sums.specs.Totals.{of_batch};
 ghost use Rattle.batch_sums.specs.Asked.{numbers_after};
 ghost use Rattle.batch_sums.specs.Kept.{IsLinked, reach_of};
@@ -53,7 +53,9 @@ pub fn links_behind(packs: &[Held], before: u32) -> Links
 }
 
 // Whether the second is as far from the first as from the third.
-fn are_level(near: u32, far: u32, further: u32) -> bool {
+fn are_level(near: u32, far: u32, further: u32) -> bool
+    ensures { result ≡ nat_eq (near + further) (2 * far) }
+{
     u64::from(near) + u64::from(further) == 2 * u64::from(far)
 }
 

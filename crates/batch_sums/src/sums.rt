@@ -145,8 +145,9 @@ impl BatchSums {
         Ok(())
     }
 
-    /// Adds a pack of a batch, with its number, which is above those before, its day since 1970-01-01, its gross and the tare of
-    /// its batch and day in mg, and the pile that it lies in.
+    /// Adds a pack of a batch, with its number, its day since 1970-01-01, its gross and the tare of
+    /// its batch and day in mg, and the pile that it lies in. The number is above those of all packs
+    /// before.
     ///
     /// It is refused only for want of memory, and never while a place is reserved.
     pub fn add(
@@ -332,8 +333,8 @@ impl BatchSums {
     }
 
     /// The numbers above `after` of the packs of a batch, at most `most` of them, in the order in
-    /// which they were added. It takes memory for them alone, and a step for each of them beside the
-    /// search for the first and the last.
+    /// which they were added. It takes memory for them alone, and a step for each of them beside
+    /// the search for the first and the last.
     pub fn packs_after(
         &self,
         alloc: Global,

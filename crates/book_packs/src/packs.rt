@@ -183,8 +183,8 @@ impl Packs {
         self.sums.population(alloc, batch)
     }
 
-    /// The numbers above `after` of the readings of a batch, at most a page of them, in the order in
-    /// which they were weighed. It takes memory for them alone.
+    /// The numbers above `after` of the readings of a batch, at most a page of them, in the order
+    /// in which they were weighed. It takes memory for them alone.
     pub fn packs_after(&self, alloc: Global, batch: u32, after: u32) -> Result<Vec<u32>, NoMemory>
         requires { batch < length self.now.batches }
         ensures { (entries : List Entry) (name : Name) → IsPacksOf entries self.now
