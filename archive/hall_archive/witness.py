@@ -153,6 +153,12 @@ def read_shipment(file: BinaryIO) -> bytes:
     return body
 
 
+def without_newest(lines: list[Line], body: bytes) -> list[Line]:
+    """The lines but for those of one row more than a book in use gives away."""
+    newest = len(body) // ROW_BYTES + 1
+    return [line for line in lines if line.rows != newest]
+
+
 def check(lines: list[Line], body: bytes) -> int:
     """Compares each line with the rows of a book, in one pass; how many fingerprints of `audit`
     were compared too. Differs names the first line that isn't so."""
