@@ -23,6 +23,14 @@ POSTGRES = "/usr/lib/postgresql/15/bin"
 PATIENCE = 300
 
 
+def times_of(pid: int) -> list[float]:
+    """Seconds of a processor that a process took: for itself, in the kernel, and the same of its
+    children that have ended."""
+    with open(f"/proc/{pid}/stat", encoding="ascii") as file:
+        fields = file.read().rpartition(")")[2].split()
+    return [int(field) / os.sysconf("SC_CLK_TCK") for field in fields[11:15]]
+
+
 class Process:
     """A process that is begun, killed and begun again."""
 
@@ -45,9 +53,7 @@ class Process:
     def seconds(self) -> float:
         """Seconds of a processor that it took."""
         assert self.run
-        with open(f"/proc/{self.run.pid}/stat", encoding="ascii") as file:
-            fields = file.read().rpartition(")")[2].split()
-        return (int(fields[11]) + int(fields[12])) / os.sysconf("SC_CLK_TCK")
+        return sum(times_of(self.run.pid)[:2])
 
     def said(self) -> str:
         with open(self.log, encoding="utf-8", errors="replace") as log:
@@ -87,6 +93,14 @@ class Postgres:
 
     def restart(self) -> None:
         self.server("restart", "-m", "fast")
+
+    def seconds(self) -> float:
+        """Seconds of a processor that the server and all that it began took."""
+        with open(f"{self.folder}/data/postmaster.pid", encoding="ascii") as file:
+            first = int(file.readline())
+        with open(f"/proc/{first}/task/{first}/children", encoding="ascii") as file:
+            children = [int(pid) for pid in file.read().split()]
+        return sum(times_of(first)) + sum(sum(times_of(pid)[:2]) for pid in children)
 
     def server(self, *words: str) -> None:
         self.control("pg_ctl", "-D", f"{self.folder}/data", "-w", *words)
