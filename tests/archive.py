@@ -214,16 +214,12 @@ def loaded(room: Room, work: Work, checked: Checked, postgres: Postgres) -> None
 def witnessed(room: Room, checked: Checked) -> None:
     """The follower's good end, and its start beside a book at rest; the witness holds."""
     need(room.follower.kill(signal.SIGTERM) == 0, "the follower ends well")
-    before = fingerprints(checked.witness())
+    checked.witness()
+    before = room.fingerprints()
     room.follower.begin()
-    wait(lambda: fingerprints(room.ask("verify", "day")[1]) > before, "a witness", 30)
+    # by its file: who reads the book itself keeps its newest row from others
+    wait(lambda: room.fingerprints() > before, "a witness", 30)
     say(f"witness: {checked.witness()}")
-
-
-def fingerprints(said: str) -> int:
-    """Of `verify`: 4 lines and 2 fingerprints hold."""
-    need(said.strip().endswith(" fingerprints hold"), f"verify: {said}")
-    return int(said.split(" ")[-3])
 
 
 def pages(room: Room, work: Work, front: Front) -> None:

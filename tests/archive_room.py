@@ -21,6 +21,8 @@ from hall_archive.__main__ import main as archive  # noqa: E402
 ARCHIVE = f"{HERE}/../archive/hall-archive"
 POSTGRES = "/usr/lib/postgresql/15/bin"
 PATIENCE = 300
+# The words of a line of the witness with a fingerprint.
+LINE_WORDS = 5
 
 
 def times_of(pid: int) -> list[float]:
@@ -110,6 +112,7 @@ class Room:
     """The archive of a book, in a folder."""
 
     def __init__(self, folder: str, database: str, **settings: Any) -> None:
+        self.folder = folder
         self.settings = f"{folder}/archive.toml"
         door = settings.pop("door")
         lines = {"database": database, "folder": folder} | settings
@@ -122,6 +125,11 @@ class Room:
 
     def words(self, *words: str) -> list[str]:
         return [sys.executable, "-B", ARCHIVE, "--settings", self.settings, *words]
+
+    def fingerprints(self) -> int:
+        """How many lines of the witness have a fingerprint of `audit`."""
+        with open(f"{self.folder}/main.day.witness", encoding="ascii") as file:
+            return sum(len(line.split()) == LINE_WORDS for line in file)
 
     def ask(self, *words: str) -> tuple[int, str]:
         """The status and all that a command of the archive says, in this process."""

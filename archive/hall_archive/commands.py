@@ -11,7 +11,8 @@ from collections.abc import Iterator
 from typing import Any
 
 from hall_archive import checks, nets, store, witness
-from hall_archive.following import COMMIT_ROWS, Door, Follower, OtherBook, Page, Spool, Unkept
+from hall_archive.door import Door
+from hall_archive.following import COMMIT_ROWS, Follower, OtherBook, Page, Spool, Unkept
 from hall_archive.questions import Books
 from hall_archive.reading import Reader, at_rest
 from hall_archive.rows import line_of

@@ -4,7 +4,6 @@ its name.
 
 A running book is asked through a door (`GET /acts/N`), a book at rest by `hall acts`."""
 
-import http.client
 import json
 import os
 import time
@@ -40,10 +39,6 @@ from hall_archive.rows import (
 # doesn't answer.
 EVERY = 0.1
 PAUSE = 1.0
-# A door ends a connection at its 1 000th request: it is renewed before.
-REQUESTS = 900
-# Seconds that an answer is waited for.
-PATIENCE = 10
 # The rows before the cursor that are compared at each connection.
 COMPARED = PAGE_ROWS
 # Rows that are kept in one commit while a book is caught up with, and those that wait at most
@@ -150,43 +145,6 @@ class Archive(Protocol):
 
     def refuse(self, why: str) -> None:
         ...
-
-
-class Door:
-    """A door of a running hall on 127.0.0.1, over one connection after another."""
-
-    def __init__(self, port: int) -> None:
-        self.port = port
-        self.link: http.client.HTTPConnection | None = None
-        self.asked = 0
-
-    @property
-    def is_new(self) -> bool:
-        return self.link is None or self.asked >= REQUESTS
-
-    def ask(self, after: int) -> Page:
-        if self.is_new:
-            self.close()
-            self.link = http.client.HTTPConnection("127.0.0.1", self.port, timeout=PATIENCE)
-        assert self.link
-        try:
-            self.link.request("GET", f"/acts/{after}")
-            self.asked += 1
-            answer = self.link.getresponse()
-            text = answer.read().decode("ascii")
-            rows = int(answer.headers.get("Book-Row", ""))
-        except (OSError, http.client.HTTPException, ValueError) as fault:
-            self.close()
-            raise Unanswered(f"port {self.port}: {fault or type(fault).__name__}") from fault
-        if answer.status != 200:
-            self.close()
-            raise Unanswered(f"port {self.port}: {answer.status} {text[:80]}")
-        return Page(text, rows)
-
-    def close(self) -> None:
-        if self.link:
-            self.link.close()
-        self.link, self.asked = None, 0
 
 
 class Spool:

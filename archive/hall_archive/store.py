@@ -18,7 +18,6 @@ from hall_archive import nets, schema
 from hall_archive.clock import Clock
 from hall_archive.following import Cursor, Taken, Unkept
 from hall_archive.keeping import Keeper
-from hall_archive.people import Place, Tied
 from hall_archive.rows import MAX_ROWS, PRIORS, SIGNALS, Entry, Weigh, line_of, read_line
 
 MIGRATIONS = os.path.join(os.path.dirname(os.path.abspath(__file__)), "migrations")
@@ -190,71 +189,6 @@ class Store:
         """Keeps what was taken, all of it or nothing; Behind where the archive is at another
         row than this begins."""
         self.keeper.keep(taken)
-
-    # ---- persons
-
-    def place(self, path: str) -> Place:
-        table = schema.front_log.c
-        with reaching(self.reads.connect) as link:
-            found = link.execute(
-                select(table.file, table.place).where(table.path == self.log(path))
-            ).one_or_none()
-        return Place(*found) if found else Place(0, 0)
-
-    def log(self, path: str) -> str:
-        """How a log is named here; each book reads it for itself."""
-        return f"{self.hall} {self.name} {path}"
-
-    def keep_people(self, path: str, place: Place, tied: list[Tied]) -> None:
-        """Keeps who acted, the first of each row, and how far the log was read."""
-        with reaching(self.engine.begin) as link:
-            for one in tied:
-                self.keep_person(link, one)
-            table = schema.front_log
-            values = {"file": place.file, "place": place.place}
-            same = table.c.path == self.log(path)
-            if link.execute(table.update().where(same).values(values)).rowcount == 0:
-                link.execute(table.insert().values(path=self.log(path), **values))
-
-    def keep_person(self, link: Any, one: Tied) -> None:
-        if one.fault:
-            values = {"book": self.book, "line": one.line, "why": one.fault}
-            link.execute(schema.refused_line.insert().values(values))
-            return
-        table = schema.person
-        same = (table.c.book == self.book, table.c.row == one.row)
-        if link.execute(select(table.c.row).where(*same)).first() is None:
-            low, high = one.hour or self.hour(link, one.row)
-            values = {"book": self.book, "row": one.row, "name": one.person}
-            values |= {"reason": one.reason, "low": low, "high": high}
-            link.execute(table.insert().values(values))
-
-    def hour(self, link: Any, row: int) -> tuple[int, int]:
-        """When a row came, where the front doesn't say when it was asked for first."""
-        table = schema.answer.c
-        of = (table.book == self.book, table.upto >= row)
-        wanted = select(table.low, table.high).where(*of).order_by(table.upto).limit(1)
-        low, high = link.execute(wanted).one()
-        return high if low is None else low, high
-
-    def act_at(self, row: int) -> Entry | None:
-        """The act of a row; None where the row is a weighing or isn't here."""
-        table = schema.act.c
-        with reaching(self.reads.connect) as link:
-            found = link.execute(
-                select(table.line).where(table.book == self.book, table.row == row)
-            ).scalar()
-        return read_line(found) if found else None
-
-    def act_of(self, desk: int, request: int, upto: int) -> Entry | None:
-        """The act of a desk and a request among the first `upto` rows. It is looked for backwards:
-        an act is asked again soon."""
-        table = schema.act.c
-        of = (table.book == self.book, table.row <= upto)
-        wanted = select(table.line).where(*of, table.line.contains(f"\t@{desk} {request} "))
-        with reaching(self.reads.connect) as link:
-            found = link.execute(wanted.order_by(table.row.desc()).limit(1)).scalar()
-        return read_line(found) if found else None
 
     # ---- alarms
 

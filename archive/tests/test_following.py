@@ -14,7 +14,8 @@ from small_book import LINES, long_book
 
 from hall_archive import following
 from hall_archive.clock import Moment
-from hall_archive.following import Behind, Door, Follower, OtherBook, Spool, Unanswered
+from hall_archive.door import Door
+from hall_archive.following import Behind, Follower, OtherBook, Spool, Unanswered
 from hall_archive.rows import PAGE_ROWS
 
 
