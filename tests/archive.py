@@ -23,8 +23,12 @@ sys.path.insert(0, f"{HERE}/../archive")
 
 from archive_hall import PEOPLE  # noqa: E402
 
+import archive_questions  # noqa: E402
+
 from hall_archive import store  # noqa: E402
+from hall_archive.keeping import BLOCK  # noqa: E402
 from hall_archive.questions import Books  # noqa: E402
+from hall_archive.search import Search  # noqa: E402
 from hall_archive.store import Store  # noqa: E402
 
 LOG = "/var/log/nginx/hall-acts.log"
@@ -44,6 +48,7 @@ class Checked:
         self.engine = store.open_engine(database)
         self.store = Store(store.open_engine(database, True), "main", "day")
         self.books = Books(self.engine)
+        self.search = Search(self.engine)
 
     def taken(self) -> int:
         try:
@@ -112,6 +117,14 @@ class Checked:
                 off[row] = max(0, known[row].low - hour.low, hour.high - known[row].high)
         return off
 
+    def answers(self) -> int:
+        """Drawn questions, by words and by spans of time; how many were answered well."""
+        chance = random.Random(self.work.seed)
+        register = self.room.ask("register", "day")[1]
+        with archive_questions.small(BLOCK, 900):
+            asked = archive_questions.compare(self.search, "main", "day", register, chance)
+            return asked + archive_questions.compare_spans(self.search, "main", "day", chance)
+
     def witness(self) -> str:
         status, said = self.room.ask("verify", "day")
         need(status == 0, f"verify: {said}")
@@ -149,6 +162,7 @@ def quiet(room: Room, work: Work, checked: Checked) -> str:
         work.end()
         said = checked.whole()
         off = checked.hours()
+        answers = checked.answers()
     most = []
     for first, last, share in stretches:
         of = sorted(off[row] for row in range(first + 2, last) if row in off)
@@ -157,7 +171,7 @@ def quiet(room: Room, work: Work, checked: Checked) -> str:
             f"{last - first} rows in {QUIET} s, hours beyond what was known: 99 % at most"
             f" {of[len(of) * 99 // 100]} ms, all {of[-1]}; {share:.1f} % of a processor"
         )
-    say(f"{len(work.acts)} acts with their persons; {said}")
+    say(f"{len(work.acts)} acts with their persons; {said}; {answers} drawn questions answered")
     return f"in each stretch hours are off, by {most} ms" if min(most) > CLOSE else ""
 
 
@@ -262,7 +276,7 @@ def full(program: str, front: Front, folder: str, seed: str) -> None:
     """The disk of the archive fills up, and has room again."""
     disk = f"{folder}/disk"
     os.makedirs(disk)
-    subprocess.run(["mount", "-t", "tmpfs", "-o", "size=4m", "tmpfs", disk], check=True)
+    subprocess.run(["mount", "-t", "tmpfs", "-o", "size=16m", "tmpfs", disk], check=True)
     room, work, checked = furnish(program, front, folder, f"sqlite:///{disk}/archive.db", seed)
     try:
         work.begin()

@@ -234,8 +234,8 @@ def story(settings: Settings, word: str, batch: str) -> int:
         print(f"hall-archive: no batch {batch} is known", file=sys.stderr)
         return 1
     search = Search(books.engine)
-    acts = search.acts(book.hall, book=book.name, batch=batch)
-    tares = search.acts(book.hall, book=book.name, product=found.goods.name, kind="tare")
+    acts = search.all_acts(book.hall, book.name, {"batch": batch})
+    tares = search.all_acts(book.hall, book.name, {"product": found.goods.name, "kind": "tare"})
     until = acts[-1]["row"]
     acts += [act for act in tares if act["row"] < until or found.state != "closed"]
     acts.sort(key=lambda act: int(act["row"]))

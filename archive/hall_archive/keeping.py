@@ -11,6 +11,8 @@ from hall_archive.clock import Answer, Clock
 from hall_archive.following import Behind, Taken, Unkept
 
 KINDS = ("live", "late", "step")
+# Rows of a block: when it is whole, the sums of its packs are kept.
+BLOCK = 4_096
 # %s is the place of a value
 MOVE_CURSOR = "UPDATE book SET upto = %s, asked = %s, clock = %s WHERE id = %s AND upto = %s"
 FIND_CLOCK = 'SELECT id FROM clock WHERE boot = %s AND "offset" = %s'
@@ -20,6 +22,10 @@ PUT_BATCH = """
     VALUES (%s, %s, %s, %s, %s, %s, %s, %s, %s)
     ON CONFLICT (book, row) DO UPDATE SET state = excluded.state, verdict = excluded.verdict,
     first = excluded.first, last = excluded.last, closed = excluded.closed"""
+ADD_BLOCK = """
+    INSERT INTO block (gross, batch, day, block, count, book, lane, signal)
+    SELECT sum(gross), batch, day, %s, count(*), book, lane, signal FROM pack
+    WHERE book = %s AND row > %s AND row <= %s GROUP BY book, batch, day, lane, signal"""
 
 
 class Keeper:
@@ -78,6 +84,13 @@ class Keeper:
             self.insert(cursor, "answer", answers)
             for batch in taken.batches:
                 self.run(cursor, PUT_BATCH, (self.book, *batch))
+            self.add_blocks(cursor, taken)
+
+    def add_blocks(self, cursor: Any, taken: Taken) -> None:
+        """Adds the sums of the blocks that became whole."""
+        for block in range(taken.after // BLOCK, taken.upto // BLOCK):
+            rows = (block * BLOCK, (block + 1) * BLOCK)
+            self.run(cursor, ADD_BLOCK, (block, self.book, *rows))
 
     def run(self, cursor: Any, statement: str, values: tuple[Any, ...]) -> Any:
         cursor.execute(statement if self.is_postgres else statement.replace("%s", "?"), values)
