@@ -273,21 +273,23 @@ def checked_slow(room: Room, work: Work, anna: Person) -> None:
 
 
 def full(program: str, front: Front, folder: str, seed: str) -> None:
-    """The disk of the archive fills up, and has room again."""
+    """The disk of the archive, its database and all that it keeps, fills up, and has room again."""
     disk = f"{folder}/disk"
     os.makedirs(disk)
     subprocess.run(["mount", "-t", "tmpfs", "-o", "size=16m", "tmpfs", disk], check=True)
-    room, work, checked = furnish(program, front, folder, f"sqlite:///{disk}/archive.db", seed)
+    database = f"sqlite:///{disk}/archive.db"
+    room, work, checked = furnish(program, front, folder, database, seed, disk)
+    room.follower.log = f"{folder}/follow.log"
     try:
         work.begin()
         room.follower.begin()
         wait(lambda: checked.taken() > 3, "the beginning is taken")
         work.work()
-        with open(f"{disk}/filler", "wb") as filler:
+        with open(f"{disk}/filler", "wb", buffering=0) as filler:
             fill(filler)
         time.sleep(10)
         taken = checked.taken()
-        need("full" in room.follower.said(), "the disk isn't full")
+        need("database or disk is full" in room.follower.said(), "the disk isn't full")
         os.remove(f"{disk}/filler")
         work.rest()
         work.end()
@@ -303,21 +305,23 @@ def fill(filler: Any) -> None:
     try:
         while True:
             filler.write(bytes(4096))
-            filler.flush()
     except OSError:
         pass
 
 
 def furnish(
-    program: str, front: Front, folder: str, database: str, seed: str
+    program: str, front: Front, folder: str, database: str, seed: str, own: str = ""
 ) -> tuple[Room, Work, Checked]:
+    """A hall in a folder, and its archive in one of its own, or in the same."""
     os.makedirs(folder, exist_ok=True)
     for path in (LOG, f"{LOG}.1"):
         if os.path.exists(path):
             os.remove(path)
     front.process.send_signal(signal.SIGUSR1)
     work = Work(program, folder, front, seed)
-    room = Room(folder, database, front=LOG, program=program, books=folder, door=ARCHIVE_PORT)
+    room = Room(
+        own or folder, database, front=LOG, program=program, books=folder, door=ARCHIVE_PORT
+    )
     done = room.ask("migrate")
     need(done == (0, ""), f"the tables are made: {done}")
     return room, work, Checked(room, work, database)

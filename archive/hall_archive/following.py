@@ -13,6 +13,7 @@ from dataclasses import dataclass, field
 from typing import Any, NamedTuple, NoReturn, Protocol
 
 from hall_archive import clock, nets
+from hall_archive.appending import append, whole_lines
 from hall_archive.clock import Answer, Clock, Hours, Moment
 from hall_archive.rows import (
     PAGE_ROWS,
@@ -155,20 +156,15 @@ class Spool:
         self.path = path
 
     def read(self) -> list[Answer]:
-        try:
-            with open(self.path, encoding="utf-8") as file:
-                lines = file.read().split("\n")[:-1]
-        except FileNotFoundError:
-            return []
-        return [answer_of(json.loads(line)) for line in lines]
+        """The hours, each once, in order of the rows."""
+        lines = whole_lines(self.path).splitlines() if self.path else []
+        found = [answer_of(json.loads(line)) for line in lines]
+        return sorted({answer.upto: answer for answer in found}.values())
 
     def add(self, answers: list[Answer]) -> None:
-        if not self.path or not answers:
-            return
-        with open(self.path, "a", encoding="utf-8") as file:
-            file.writelines(f"{json.dumps(answer)}\n" for answer in answers)
-            file.flush()
-            os.fsync(file.fileno())
+        """Adds hours; OSError where there is no room for them, and none is added."""
+        if self.path and answers:
+            append(self.path, "".join(f"{json.dumps(answer)}\n" for answer in answers))
 
     def clear(self) -> None:
         if self.path and os.path.exists(self.path):
@@ -251,10 +247,15 @@ class Follower:
         return entries
 
     def with_known(self, answer: Answer) -> list[Answer]:
-        """An answer, behind those of before a kill that had some of its rows already."""
+        """An answer, behind those of before a kill that had some of its rows already. Where rows of
+        one of those come in parts, each part has its hour."""
         before = [one for one in self.known if one.upto <= answer.upto]
         self.known = self.known[len(before) :]
-        return before if before and before[-1].upto == answer.upto else [*before, answer]
+        if before and before[-1].upto == answer.upto:
+            return before
+        if self.known:
+            answer = self.known[0]._replace(upto=answer.upto)
+        return [*before, answer]
 
     def compare(self) -> None:
         """Compares the rows before the next one with those of the book at hand."""
@@ -325,22 +326,28 @@ class Follower:
         try:
             self.archive.keep(taken)
         except Unkept:
-            self.spool.add(taken.answers[self.spooled :])
-            self.spooled, self.has_spool = len(taken.answers), True
             self.tried = time.monotonic()
+            self.put_aside(taken.answers)
             if self.upto - taken.after > WAITING_ROWS:
                 raise
             return None
         self.kept(taken)
         return taken
 
+    def put_aside(self, answers: list[Answer]) -> None:
+        """Puts the hours that wait into the file; where that has no room either they wait here."""
+        try:
+            self.spool.add(answers[self.spooled :])
+        except OSError:
+            return
+        self.spooled, self.has_spool = len(answers), True
+
     def kept(self, taken: Taken) -> None:
         for name in taken.closed:
             self.book.forget(name)
-        if self.has_spool:
+        if self.has_spool and not self.known:
             self.spool.clear()
-            self.spool.add(self.known)
-            self.has_spool = bool(self.known)
+            self.has_spool = False
         self.spooled, self.tried = 0, 0.0
         self.touched.clear()
         self.waiting = self.new_taken()
