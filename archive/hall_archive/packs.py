@@ -120,10 +120,12 @@ class Packs(Spans):
         )
 
     def by_signals(self, part: Part, most: int) -> list[Row]:
-        # what the first term says lets the indexes of rejects answer
+        index = "pack_rejected" if part.wanted.signal in ("", "reject") else "pack_signal"
+        # what the first term says lets the indexes of rejects answer; SQLite has to be told
+        hint = f"INDEXED BY {index}" if self.engine.dialect.name == "sqlite" else ""
         terms = ["p.signal > 0", "p.book = :book", "p.row > :after", "p.row <= :upto"]
         terms += ["m.pile IS NULL"] * (part.wanted.pile == "rejected")
-        return self.rows(with_moves(terms + terms_of(part)), part.span, most)
+        return self.rows(with_moves(terms + terms_of(part), hint), part.span, most)
 
     def by_blocks(self, part: Part, most: int) -> list[Row]:
         terms = ["p.book = :book", "p.row > :after", "p.row <= :upto"] + terms_of(part)
@@ -184,8 +186,9 @@ def terms_of(part: Part) -> list[str]:
     return terms
 
 
-def with_moves(terms: list[str]) -> str:
-    return f"""SELECT {FIELDS} FROM pack p LEFT JOIN move m ON m.book = p.book AND m.pack = p.row
+def with_moves(terms: list[str], hint: str = "") -> str:
+    return f"""SELECT {FIELDS} FROM pack p {hint}
+        LEFT JOIN move m ON m.book = p.book AND m.pack = p.row
         WHERE {' AND '.join(terms)} ORDER BY p.row LIMIT :most"""
 
 
