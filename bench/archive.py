@@ -94,7 +94,7 @@ def measure(kind: str, url: str, lines: list[str]) -> None:
     timed(f"{kind}, rows hashed", lambda: running.add(map(bytes_of, kept.entries())))
     timed(f"{kind}, a batch's sheet", lambda: nets.sheet(search.batch(kept.book, "B3")))
     timed(f"{kind}, a pack's story", lambda: search.story("main", "day", len(lines) // 2))
-    timed(f"{kind}, a batch by name", lambda: search.batches("main", name="B3"))
+    timed(f"{kind}, a batch by name", lambda: search.batches("main", "", {"name": "B3"}))
     timed(f"{kind}, 1 000 packs of a batch", lambda: search.packs("main", "day", batch="B3"))
     timed(f"{kind}, all rejects", lambda: search.packs("main", "day", signal="reject"))
     timed(f"{kind}, sums of the book", lambda: search.totals("main", "day"))

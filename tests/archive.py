@@ -23,8 +23,12 @@ sys.path.insert(0, f"{HERE}/../archive")
 
 from archive_hall import PEOPLE  # noqa: E402
 
+import archive_questions  # noqa: E402
+
 from hall_archive import store  # noqa: E402
+from hall_archive.keeping import BLOCK  # noqa: E402
 from hall_archive.questions import Books  # noqa: E402
+from hall_archive.search import Search  # noqa: E402
 from hall_archive.store import Store  # noqa: E402
 
 LOG = "/var/log/nginx/hall-acts.log"
@@ -44,6 +48,7 @@ class Checked:
         self.engine = store.open_engine(database)
         self.store = Store(store.open_engine(database, True), "main", "day")
         self.books = Books(self.engine)
+        self.search = Search(self.engine)
 
     def taken(self) -> int:
         try:
@@ -64,12 +69,12 @@ class Checked:
         self.has_all(len(lines))
         for one, other in zip(self.store.lines(0, EVER >> 22), lines, strict=True):
             need(one == other, f"kept is {one!r}, and it was {other!r}")
+        self.people()
+        self.work.hall.kill()
         told = run(self.work.program, "export", "--book", self.work.path)
         need(self.room.ask("register", "day") == (0, told), "the register differs")
         status, said = self.room.ask("check", "day")
         need(status == 0, f"check: {said}")
-        self.people()
-        self.work.hall.kill()
         alarms = self.books.ask("SELECT what FROM alarm")
         need(not alarms, f"alarms: {alarms}")
         return said.strip()
@@ -112,6 +117,14 @@ class Checked:
                 off[row] = max(0, known[row].low - hour.low, hour.high - known[row].high)
         return off
 
+    def answers(self) -> int:
+        """Drawn questions, by words and by spans of time; how many were answered well."""
+        chance = random.Random(self.work.seed)
+        register = self.room.ask("register", "day")[1]
+        with archive_questions.small(BLOCK, 900):
+            asked = archive_questions.compare(self.search, "main", "day", register, chance)
+            return asked + archive_questions.compare_spans(self.search, "main", "day", chance)
+
     def witness(self) -> str:
         status, said = self.room.ask("verify", "day")
         need(status == 0, f"verify: {said}")
@@ -149,6 +162,7 @@ def quiet(room: Room, work: Work, checked: Checked) -> str:
         work.end()
         said = checked.whole()
         off = checked.hours()
+        answers = checked.answers()
     most = []
     for first, last, share in stretches:
         of = sorted(off[row] for row in range(first + 2, last) if row in off)
@@ -157,7 +171,7 @@ def quiet(room: Room, work: Work, checked: Checked) -> str:
             f"{last - first} rows in {QUIET} s, hours beyond what was known: 99 % at most"
             f" {of[len(of) * 99 // 100]} ms, all {of[-1]}; {share:.1f} % of a processor"
         )
-    say(f"{len(work.acts)} acts with their persons; {said}")
+    say(f"{len(work.acts)} acts with their persons; {said}; {answers} drawn questions answered")
     return f"in each stretch hours are off, by {most} ms" if min(most) > CLOSE else ""
 
 
@@ -214,16 +228,12 @@ def loaded(room: Room, work: Work, checked: Checked, postgres: Postgres) -> None
 def witnessed(room: Room, checked: Checked) -> None:
     """The follower's good end, and its start beside a book at rest; the witness holds."""
     need(room.follower.kill(signal.SIGTERM) == 0, "the follower ends well")
-    before = fingerprints(checked.witness())
+    checked.witness()
+    before = room.fingerprints()
     room.follower.begin()
-    wait(lambda: fingerprints(room.ask("verify", "day")[1]) > before, "a witness", 30)
+    # by its file: who reads the book itself keeps its newest row from others
+    wait(lambda: room.fingerprints() > before, "a witness", 30)
     say(f"witness: {checked.witness()}")
-
-
-def fingerprints(said: str) -> int:
-    """Of `verify`: 4 lines and 2 fingerprints hold."""
-    need(said.strip().endswith(" fingerprints hold"), f"verify: {said}")
-    return int(said.split(" ")[-3])
 
 
 def pages(room: Room, work: Work, front: Front) -> None:
@@ -263,21 +273,23 @@ def checked_slow(room: Room, work: Work, anna: Person) -> None:
 
 
 def full(program: str, front: Front, folder: str, seed: str) -> None:
-    """The disk of the archive fills up, and has room again."""
+    """The disk of the archive, its database and all that it keeps, fills up, and has room again."""
     disk = f"{folder}/disk"
     os.makedirs(disk)
-    subprocess.run(["mount", "-t", "tmpfs", "-o", "size=4m", "tmpfs", disk], check=True)
-    room, work, checked = furnish(program, front, folder, f"sqlite:///{disk}/archive.db", seed)
+    subprocess.run(["mount", "-t", "tmpfs", "-o", "size=16m", "tmpfs", disk], check=True)
+    database = f"sqlite:///{disk}/archive.db"
+    room, work, checked = furnish(program, front, folder, database, seed, disk)
+    room.follower.log = f"{folder}/follow.log"
     try:
         work.begin()
         room.follower.begin()
         wait(lambda: checked.taken() > 3, "the beginning is taken")
         work.work()
-        with open(f"{disk}/filler", "wb") as filler:
+        with open(f"{disk}/filler", "wb", buffering=0) as filler:
             fill(filler)
         time.sleep(10)
         taken = checked.taken()
-        need("full" in room.follower.said(), "the disk isn't full")
+        need("database or disk is full" in room.follower.said(), "the disk isn't full")
         os.remove(f"{disk}/filler")
         work.rest()
         work.end()
@@ -293,21 +305,23 @@ def fill(filler: Any) -> None:
     try:
         while True:
             filler.write(bytes(4096))
-            filler.flush()
     except OSError:
         pass
 
 
 def furnish(
-    program: str, front: Front, folder: str, database: str, seed: str
+    program: str, front: Front, folder: str, database: str, seed: str, own: str = ""
 ) -> tuple[Room, Work, Checked]:
+    """A hall in a folder, and its archive in one of its own, or in the same."""
     os.makedirs(folder, exist_ok=True)
     for path in (LOG, f"{LOG}.1"):
         if os.path.exists(path):
             os.remove(path)
     front.process.send_signal(signal.SIGUSR1)
     work = Work(program, folder, front, seed)
-    room = Room(folder, database, front=LOG, program=program, books=folder, door=ARCHIVE_PORT)
+    room = Room(
+        own or folder, database, front=LOG, program=program, books=folder, door=ARCHIVE_PORT
+    )
     done = room.ask("migrate")
     need(done == (0, ""), f"the tables are made: {done}")
     return room, work, Checked(room, work, database)

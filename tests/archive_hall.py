@@ -118,12 +118,20 @@ class Desk(threading.Thread):
         reply = self.ask(None, act="draw", batch=batch, mode="keep", word=self.chance.randrange(99))
         if not reply:
             return
-        sheet = self.person.send("GET", f"/hall/batches/{batch}/sample").body.decode()
-        for pack in sheet.split()[3:]:
+        for pack in self.sample(batch):
             self.ask(
                 None, act="measure", pack=int(pack), gross=self.chance.randint(259_000, 264_000)
             )
         self.ask("asked for", act="close", batch=batch)
+
+    def sample(self, batch: str) -> list[str]:
+        """The packs that were drawn, by a hall that answers again where it was killed."""
+        path = f"/hall/batches/{batch}/sample"
+        while (reply := self.send(self.person, b"", "GET", path)) is None:
+            need(not self.work.is_over.wait(0.1), f"no answer to {path}")
+        need(reply.status == 200, f"{path}: {reply.status} {reply.body[:200]!r}")
+        words: list[str] = reply.body.decode().split()
+        return words[3:]
 
     def ask(self, reason: str | None, **members: Any) -> dict[str, Any] | None:
         """Asks an act until it is answered; what it was told, or None where it is refused."""
@@ -146,9 +154,9 @@ class Desk(threading.Thread):
             self.repeats += again is not None
         return told
 
-    def send(self, person: Any, text: bytes) -> Any:
+    def send(self, person: Any, text: bytes, method: str = "POST", path: str = "/hall/acts") -> Any:
         try:
-            reply = person.send("POST", "/hall/acts", text)
+            reply = person.send(method, path, text)
         except (OSError, AssertionError):
             return None
         return None if reply.status in FAILED else reply

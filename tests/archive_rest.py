@@ -1,8 +1,9 @@
 #!/usr/bin/python3
 """The archive beside the program itself: books that are drawn at random, through the script line by
 line, are taken in by `hall acts`, and the register and every sheet are compared with `export` and
-`report`; the witness is made and holds against `ship` and `audit`. Each book is then spoiled: with
-a row changed, one cut off, and another book in its place. First the story of docs/INSPECTOR.md.
+`report`; drawn questions are answered as the register says; the witness is made and holds against
+`ship` and `audit`. Each book is then spoiled: with a row changed, one cut off, and another book in
+its place. First the story of docs/INSPECTOR.md.
 
 usage: tests/archive_rest.py [BOOKS [SEED]]     HALL names the program; needs sqlalchemy, alembic"""
 
@@ -18,11 +19,13 @@ from contextlib import redirect_stderr, redirect_stdout
 HERE = os.path.dirname(os.path.realpath(__file__))
 sys.path.insert(0, f"{HERE}/../archive")
 
+import archive_questions  # noqa: E402
 import archive_story  # noqa: E402
 from drawn_books import Draw, draw_book  # noqa: E402
 
 from hall_archive import settings, store  # noqa: E402
 from hall_archive.__main__ import main as archive  # noqa: E402
+from hall_archive.search import Search  # noqa: E402
 from hall_archive.service import People, Witnessing  # noqa: E402
 from hall_archive.store import Store  # noqa: E402
 from hall_archive.witness import Witness  # noqa: E402
@@ -77,6 +80,8 @@ def try_book(room: Room, place: int, seed: str) -> int:
         room.wanted(0, "sheets are the book's", "take", book)
         room.witness(book)
     room.wanted(0, " hold", "verify", book)
+    search = Search(store.open_engine(settings.load(room.path).database))
+    archive_questions.compare(search, "main", book, room.ask("register", book)[1], chance)
     rows = subprocess.run(
         [room.program, "check", "--book", path], capture_output=True, text=True, check=True
     )
@@ -144,9 +149,10 @@ def main() -> None:
     with tempfile.TemporaryDirectory() as folder:
         room = Room(program, folder)
         try_story(room)
-        for place in range(books):
-            rows += try_book(room, place, seed)
-    print(f"{books} books, {rows} rows: the register, sheets and witness hold; spoiled ones told")
+        with archive_questions.small(block=16, page=7):
+            for place in range(books):
+                rows += try_book(room, place, seed)
+    print(f"{books} books, {rows} rows: register, sheets, answers, witness hold; spoiled ones told")
     print(f"seed {seed}")
 
 

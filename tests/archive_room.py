@@ -21,6 +21,16 @@ from hall_archive.__main__ import main as archive  # noqa: E402
 ARCHIVE = f"{HERE}/../archive/hall-archive"
 POSTGRES = "/usr/lib/postgresql/15/bin"
 PATIENCE = 300
+# The words of a line of the witness with a fingerprint.
+LINE_WORDS = 5
+
+
+def times_of(pid: int) -> list[float]:
+    """Seconds of a processor that a process took: for itself, in the kernel, and the same of its
+    children that have ended."""
+    with open(f"/proc/{pid}/stat", encoding="ascii") as file:
+        fields = file.read().rpartition(")")[2].split()
+    return [int(field) / os.sysconf("SC_CLK_TCK") for field in fields[11:15]]
 
 
 class Process:
@@ -45,9 +55,7 @@ class Process:
     def seconds(self) -> float:
         """Seconds of a processor that it took."""
         assert self.run
-        with open(f"/proc/{self.run.pid}/stat", encoding="ascii") as file:
-            fields = file.read().rpartition(")")[2].split()
-        return (int(fields[11]) + int(fields[12])) / os.sysconf("SC_CLK_TCK")
+        return sum(times_of(self.run.pid)[:2])
 
     def said(self) -> str:
         with open(self.log, encoding="utf-8", errors="replace") as log:
@@ -88,6 +96,14 @@ class Postgres:
     def restart(self) -> None:
         self.server("restart", "-m", "fast")
 
+    def seconds(self) -> float:
+        """Seconds of a processor that the server and all that it began took."""
+        with open(f"{self.folder}/data/postmaster.pid", encoding="ascii") as file:
+            first = int(file.readline())
+        with open(f"/proc/{first}/task/{first}/children", encoding="ascii") as file:
+            children = [int(pid) for pid in file.read().split()]
+        return sum(times_of(first)) + sum(sum(times_of(pid)[:2]) for pid in children)
+
     def server(self, *words: str) -> None:
         self.control("pg_ctl", "-D", f"{self.folder}/data", "-w", *words)
 
@@ -96,6 +112,7 @@ class Room:
     """The archive of a book, in a folder."""
 
     def __init__(self, folder: str, database: str, **settings: Any) -> None:
+        self.folder = folder
         self.settings = f"{folder}/archive.toml"
         door = settings.pop("door")
         lines = {"database": database, "folder": folder} | settings
@@ -108,6 +125,11 @@ class Room:
 
     def words(self, *words: str) -> list[str]:
         return [sys.executable, "-B", ARCHIVE, "--settings", self.settings, *words]
+
+    def fingerprints(self) -> int:
+        """How many lines of the witness have a fingerprint of `audit`."""
+        with open(f"{self.folder}/main.day.witness", encoding="ascii") as file:
+            return sum(len(line.split()) == LINE_WORDS for line in file)
 
     def ask(self, *words: str) -> tuple[int, str]:
         """The status and all that a command of the archive says, in this process."""

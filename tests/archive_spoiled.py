@@ -9,6 +9,7 @@ from typing import Any
 from archive_hall import Work
 from archive_room import Room, wait
 from clients import need
+from sqlalchemy import text
 
 # A row's bytes; the first of a file is its head, whose ninth byte says that a snapshot follows.
 SLOT = 96
@@ -93,10 +94,9 @@ def follow(room: Room, work: Work, store: Any, name: str, is_early: bool) -> Non
 
 
 def alarms(store: Any) -> list[Any]:
+    wanted = text("SELECT what FROM alarm WHERE what LIKE '%aren''t those%'")
     with store.engine.connect() as link:
-        return list(
-            link.exec_driver_sql("SELECT what FROM alarm WHERE what LIKE '%aren''t those%'")
-        )
+        return list(link.execute(wanted))
 
 
 def forgive(store: Any) -> None:

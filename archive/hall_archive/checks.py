@@ -20,6 +20,12 @@ def is_closed(sheet: str) -> bool:
     return "\nstate closed\n" in sheet
 
 
+def read_out(lines: Iterable[str]) -> None:
+    """Reads what is left of an answer: at its end it says whether the book is in use."""
+    for _ in lines:
+        pass
+
+
 def compare_sheet(batch: str, ours: str, theirs: str) -> None:
     for one, other in zip(ours.splitlines(), theirs.splitlines(), strict=False):
         if one != other:

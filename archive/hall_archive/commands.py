@@ -11,9 +11,10 @@ from collections.abc import Iterator
 from typing import Any
 
 from hall_archive import checks, nets, store, witness
-from hall_archive.following import COMMIT_ROWS, Door, Follower, OtherBook, Page, Spool, Unkept
+from hall_archive.door import Door
+from hall_archive.following import COMMIT_ROWS, Follower, OtherBook, Page, Spool, Unkept
 from hall_archive.questions import Books
-from hall_archive.reading import Reader
+from hall_archive.reading import Reader, at_rest
 from hall_archive.rows import line_of
 from hall_archive.service import (
     PEOPLE_EVERY,
@@ -154,27 +155,33 @@ def take(settings: Settings, word: str, _: str) -> int:
     book = book_of(settings, word)
     kept = Store(opened(settings), book.hall, book.name)
     reader = settings.reader()
-    cursor = kept.cursor()
-    compare_rows(kept, reader, cursor.upto)
-    follower = Follower(book.name, Rest(reader, book.name, cursor.upto), kept)
+    upto = kept.cursor().upto
+    if why := at_rest(reader, lambda: first_other(kept, reader, upto)):
+        refuse(kept, why)
+    rows = at_rest(reader, lambda: take_rest(kept, reader))
+    print(f"rows {rows} taken")
+    return check(settings, word, "")
+
+
+def take_rest(kept: Store, reader: Reader) -> int:
+    """Takes in what a book at rest has more; how many rows that makes."""
+    follower = Follower(kept.name, Rest(reader, kept.name, kept.cursor().upto), kept)
     while follower.step()[0]:
         pass
     if follower.waiting.upto > follower.waiting.after:
         follower.keep()
-    print(f"rows {follower.upto} taken")
-    return check(settings, word, "")
-
-
-def compare_rows(kept: Store, reader: Reader, upto: int) -> None:
-    """OtherBook where the book's first rows aren't those that were taken."""
-    if why := first_other(kept, reader, upto):
-        refuse(kept, why)
+    return follower.upto
 
 
 def first_other(kept: Store, reader: Reader, upto: int) -> str:
     """What of the book's first rows isn't as it was taken; nothing where all of it is."""
     lines = checks.lines_of(reader.ask(kept.name, "acts"))
-    ours = map(line_of, kept.entries(upto=upto))
+    said = compare_rows(map(line_of, kept.entries(upto=upto)), lines, upto)
+    checks.read_out(lines)
+    return said
+
+
+def compare_rows(ours: Iterator[str], lines: Iterator[str], upto: int) -> str:
     row = 0
     for row, (one, other) in enumerate(zip(ours, lines, strict=False), 1):
         if f"{one}\n" != other:
@@ -227,8 +234,8 @@ def story(settings: Settings, word: str, batch: str) -> int:
         print(f"hall-archive: no batch {batch} is known", file=sys.stderr)
         return 1
     search = Search(books.engine)
-    acts = search.acts(book.hall, book=book.name, batch=batch)
-    tares = search.acts(book.hall, book=book.name, product=found.goods.name, kind="tare")
+    acts = search.all_acts(book.hall, book.name, {"batch": batch})
+    tares = search.all_acts(book.hall, book.name, {"product": found.goods.name, "kind": "tare"})
     until = acts[-1]["row"]
     acts += [act for act in tares if act["row"] < until or found.state != "closed"]
     acts.sort(key=lambda act: int(act["row"]))
@@ -256,40 +263,53 @@ def check(settings: Settings, word: str, _: str) -> int:
     """Compares the register and each sheet with those of a book at rest."""
     books, number, book = found_book(settings, word)
     reader = settings.reader()
+    said, is_same = at_rest(reader, lambda: held_whole(books, number, book.name, reader))
+    if is_same:
+        print(said)
+        return 0
     kept = Store(store.open_engine(settings.database), book.hall, book.name)
+    kept.alarm(time.time_ns() // 1_000_000, said)
+    print(f"hall-archive: {book.name}: {said}", file=sys.stderr)
+    return 1
+
+
+def held_whole(books: Books, number: int, book: str, reader: Reader) -> tuple[str, bool]:
+    """The register and each sheet beside those of the book: what to say, and whether they are the
+    same."""
+    told = checks.lines_of(reader.ask(book, "export"))
+    sheets = 0
     try:
-        told = checks.lines_of(reader.ask(book.name, "export"))
         lines = checks.compare_register(books.register(number), told)
-        sheets = 0
         for sheets, name in enumerate(books.names(number), 1):
             batch = books.batch(number, name)
             assert batch
-            theirs = checks.report_of(reader, book.name, name)
-            checks.compare_sheet(name, nets.sheet(batch), theirs)
+            checks.compare_sheet(name, nets.sheet(batch), checks.report_of(reader, book, name))
     except checks.Differs as fault:
-        kept.alarm(time.time_ns() // 1_000_000, str(fault))
-        print(f"hall-archive: {book.name}: {fault}", file=sys.stderr)
-        return 1
-    print(f"register of {lines - 1} packs and {sheets} sheets are the book's")
-    return 0
+        checks.read_out(told)
+        return str(fault), False
+    return f"register of {lines - 1} packs and {sheets} sheets are the book's", True
 
 
 def verify(settings: Settings, word: str, _: str) -> int:
     """Compares the witness with the book, line by line."""
     book = book_of(settings, word)
     path = settings.witness(book)
+    reader = settings.reader()
     try:
         with open(path, encoding="ascii") as file:
             lines = witness.read_lines(file.read())
-        shipped = b"".join(settings.reader().ask(book.name, "ship"))
+        shipped = b"".join(reader.ask(book.name, "ship"))
         body = witness.read_shipment(io.BytesIO(shipped))
-        audits = witness.check(lines, body)
+        due = witness.without_newest(lines, body) if reader.in_use else lines
+        audits = witness.check(due, body)
     except witness.Differs as fault:
         print(f"hall-archive: {book.name}: {fault}", file=sys.stderr)
         return 1
     except OSError as fault:
         raise BadSettings(f"{path}: {fault.strerror}") from fault
-    print(f"{len(lines)} lines and {audits} fingerprints hold")
+    if len(due) < len(lines):
+        print(f"{len(lines) - len(due)} lines wait: the book is in use, and its newest row unread")
+    print(f"{len(due)} lines and {audits} fingerprints hold")
     return 0
 
 

@@ -4,7 +4,6 @@ its name.
 
 A running book is asked through a door (`GET /acts/N`), a book at rest by `hall acts`."""
 
-import http.client
 import json
 import os
 import time
@@ -14,6 +13,7 @@ from dataclasses import dataclass, field
 from typing import Any, NamedTuple, NoReturn, Protocol
 
 from hall_archive import clock, nets
+from hall_archive.appending import append, whole_lines
 from hall_archive.clock import Answer, Clock, Hours, Moment
 from hall_archive.rows import (
     PAGE_ROWS,
@@ -40,10 +40,6 @@ from hall_archive.rows import (
 # doesn't answer.
 EVERY = 0.1
 PAUSE = 1.0
-# A door ends a connection at its 1 000th request: it is renewed before.
-REQUESTS = 900
-# Seconds that an answer is waited for.
-PATIENCE = 10
 # The rows before the cursor that are compared at each connection.
 COMPARED = PAGE_ROWS
 # Rows that are kept in one commit while a book is caught up with, and those that wait at most
@@ -152,43 +148,6 @@ class Archive(Protocol):
         ...
 
 
-class Door:
-    """A door of a running hall on 127.0.0.1, over one connection after another."""
-
-    def __init__(self, port: int) -> None:
-        self.port = port
-        self.link: http.client.HTTPConnection | None = None
-        self.asked = 0
-
-    @property
-    def is_new(self) -> bool:
-        return self.link is None or self.asked >= REQUESTS
-
-    def ask(self, after: int) -> Page:
-        if self.is_new:
-            self.close()
-            self.link = http.client.HTTPConnection("127.0.0.1", self.port, timeout=PATIENCE)
-        assert self.link
-        try:
-            self.link.request("GET", f"/acts/{after}")
-            self.asked += 1
-            answer = self.link.getresponse()
-            text = answer.read().decode("ascii")
-            rows = int(answer.headers.get("Book-Row", ""))
-        except (OSError, http.client.HTTPException, ValueError) as fault:
-            self.close()
-            raise Unanswered(f"port {self.port}: {fault or type(fault).__name__}") from fault
-        if answer.status != 200:
-            self.close()
-            raise Unanswered(f"port {self.port}: {answer.status} {text[:80]}")
-        return Page(text, rows)
-
-    def close(self) -> None:
-        if self.link:
-            self.link.close()
-        self.link, self.asked = None, 0
-
-
 class Spool:
     """Hours of rows that the database doesn't have yet, in a file that is synced. Without a path
     there is none."""
@@ -197,20 +156,15 @@ class Spool:
         self.path = path
 
     def read(self) -> list[Answer]:
-        try:
-            with open(self.path, encoding="utf-8") as file:
-                lines = file.read().split("\n")[:-1]
-        except FileNotFoundError:
-            return []
-        return [answer_of(json.loads(line)) for line in lines]
+        """The hours, each once, in order of the rows."""
+        lines = whole_lines(self.path).splitlines() if self.path else []
+        found = [answer_of(json.loads(line)) for line in lines]
+        return sorted({answer.upto: answer for answer in found}.values())
 
     def add(self, answers: list[Answer]) -> None:
-        if not self.path or not answers:
-            return
-        with open(self.path, "a", encoding="utf-8") as file:
-            file.writelines(f"{json.dumps(answer)}\n" for answer in answers)
-            file.flush()
-            os.fsync(file.fileno())
+        """Adds hours; OSError where there is no room for them, and none is added."""
+        if self.path and answers:
+            append(self.path, "".join(f"{json.dumps(answer)}\n" for answer in answers))
 
     def clear(self) -> None:
         if self.path and os.path.exists(self.path):
@@ -293,10 +247,15 @@ class Follower:
         return entries
 
     def with_known(self, answer: Answer) -> list[Answer]:
-        """An answer, behind those of before a kill that had some of its rows already."""
+        """An answer, behind those of before a kill that had some of its rows already. Where rows of
+        one of those come in parts, each part has its hour."""
         before = [one for one in self.known if one.upto <= answer.upto]
         self.known = self.known[len(before) :]
-        return before if before and before[-1].upto == answer.upto else [*before, answer]
+        if before and before[-1].upto == answer.upto:
+            return before
+        if self.known:
+            answer = self.known[0]._replace(upto=answer.upto)
+        return [*before, answer]
 
     def compare(self) -> None:
         """Compares the rows before the next one with those of the book at hand."""
@@ -367,22 +326,28 @@ class Follower:
         try:
             self.archive.keep(taken)
         except Unkept:
-            self.spool.add(taken.answers[self.spooled :])
-            self.spooled, self.has_spool = len(taken.answers), True
             self.tried = time.monotonic()
+            self.put_aside(taken.answers)
             if self.upto - taken.after > WAITING_ROWS:
                 raise
             return None
         self.kept(taken)
         return taken
 
+    def put_aside(self, answers: list[Answer]) -> None:
+        """Puts the hours that wait into the file; where that has no room either they wait here."""
+        try:
+            self.spool.add(answers[self.spooled :])
+        except OSError:
+            return
+        self.spooled, self.has_spool = len(answers), True
+
     def kept(self, taken: Taken) -> None:
         for name in taken.closed:
             self.book.forget(name)
-        if self.has_spool:
+        if self.has_spool and not self.known:
             self.spool.clear()
-            self.spool.add(self.known)
-            self.has_spool = bool(self.known)
+            self.has_spool = False
         self.spooled, self.tried = 0, 0.0
         self.touched.clear()
         self.waiting = self.new_taken()

@@ -64,8 +64,8 @@ class Tied(NamedTuple):
 class Acts(Protocol):
     """The acts of a book."""
 
-    def act_at(self, row: int) -> Entry | None:
-        """The act of a row; None where there is none."""
+    def acts_at(self, rows: list[int]) -> dict[int, Entry]:
+        """The acts of some rows, where there are any."""
 
     def act_of(self, desk: int, request: int, upto: int) -> Entry | None:
         """The act of a desk and a request, among the first `upto` rows."""
@@ -99,11 +99,11 @@ def is_of(line: Line, entry: Entry | None) -> bool:
     return type(entry.act).__name__.lower() == WORDS.get(line.act, line.act)
 
 
-def tie(line: Line, acts: Acts) -> Tied:
-    """Ties a line to its act."""
+def tie(line: Line, there: Entry | None, acts: Acts) -> Tied:
+    """Ties a line to its act, where `there` is the act of its row."""
     row, fault = line.row, ""
     hour: Hour | None = Hour(line.low, line.high)
-    if not is_of(line, acts.act_at(row)):
+    if not is_of(line, there):
         hour, before = None, acts.act_of(line.desk, line.request, row)
         if before and is_of(line, before):
             row = before.row
@@ -154,13 +154,12 @@ def inode_of(path: str) -> int:
 
 def tie_lines(lines: list[str], book: str, upto: int, acts: Acts) -> tuple[list[Tied], list[str]]:
     """The lines of a book that can be tied now, and those whose row isn't taken yet."""
-    tied, waiting = [], []
+    said, waiting = [], []
     for text in lines:
         line = read_line(text, book)
-        if line is None:
-            continue
-        if line.row > upto:
+        if line and line.row <= upto:
+            said.append(line)
+        elif line:
             waiting.append(text)
-        else:
-            tied.append(tie(line, acts))
-    return tied, waiting
+    there = acts.acts_at([line.row for line in said]) if said else {}
+    return [tie(line, there.get(line.row), acts) for line in said], waiting

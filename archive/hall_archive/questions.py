@@ -7,6 +7,7 @@ from typing import Any, NamedTuple
 from sqlalchemy import text
 
 from hall_archive import nets, rules
+from hall_archive.keeping import KINDS
 from hall_archive.nets import PILES, REGISTER_HEAD, Batch, Goods
 from hall_archive.rows import (
     SIGNALS,
@@ -22,7 +23,7 @@ from hall_archive.rows import (
     grams,
     read_line,
 )
-from hall_archive.store import CHUNK, KINDS, reaching
+from hall_archive.store import CHUNK, reaching
 
 # The most records of one answer.
 PAGE = 1_000

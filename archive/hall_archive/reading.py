@@ -3,14 +3,19 @@ never by opening the file.
 
 Where the archive runs as its own user it asks a socket, behind which systemd runs `serve_one` as
 the user hall, apart from all else. A question is one line, `COMMAND BOOK [WORD]`; the answer comes
-in pieces, each behind its length in 4 bytes, and ends with a length of 0 and the status."""
+in pieces, each behind its length in 4 bytes, and ends with a length of 0, the status (2: in use) and
+why it isn't 0.
+
+Of a book that is in use, by a hall or by another reader at the same time, the program reads all but
+the newest row, and says so beside its answer."""
 
 import re
 import socket
 import subprocess
 import sys
-from collections.abc import Iterator
-from typing import BinaryIO, Protocol
+import time
+from collections.abc import Callable, Generator, Iterator
+from typing import BinaryIO, Protocol, TypeVar
 
 PIECE = 1 << 20
 LENGTH = 4
@@ -27,6 +32,12 @@ QUESTIONS = {
     "export": None,
     "ship": None,
 }
+# What the program says beside the answer of a book that is in use, and the status of that.
+IN_USE = ": it is in use; "
+WELL, BADLY, USED = b"\0", b"\1", b"\2"
+# How often a book that is in use is asked again, a second later each time: a reader is soon done.
+TRIES = 8
+Found = TypeVar("Found")
 
 
 class NotRead(Exception):
@@ -34,7 +45,10 @@ class NotRead(Exception):
 
 
 class Reader(Protocol):
-    """Asks the program about a book."""
+    """Asks the program about a book. `in_use` becomes true where an answer that was read to its end
+    lacks the newest row."""
+
+    in_use: bool
 
     def ask(self, book: str, command: str, word: str = "") -> Iterator[bytes]:
         """What it prints, piece by piece; NotRead where it doesn't end well."""
@@ -58,6 +72,7 @@ class Program:
     def __init__(self, program: str, folder: str) -> None:
         self.program = program
         self.folder = folder
+        self.in_use = False
 
     def ask(self, book: str, command: str, word: str = "") -> Iterator[bytes]:
         if not NAME.fullmatch(book):
@@ -74,6 +89,7 @@ class Program:
         # a report of an unknown batch is a refusal, with status 0
         if run.returncode:
             raise NotRead(f"hall {command} of {book} ends with {run.returncode}: {why[:200]}")
+        self.in_use |= IN_USE in why
 
 
 class Socket:
@@ -81,6 +97,7 @@ class Socket:
 
     def __init__(self, path: str) -> None:
         self.path = path
+        self.in_use = False
 
     def ask(self, book: str, command: str, word: str = "") -> Iterator[bytes]:
         question = " ".join(filter(None, (command, book, word)))
@@ -89,18 +106,21 @@ class Socket:
                 link.settimeout(PATIENCE)
                 link.connect(self.path)
                 link.sendall(f"{question}\n".encode("ascii"))
-                yield from unpack(link.makefile("rb"), question)
+                self.in_use |= yield from unpack(link.makefile("rb"), question)
         except OSError as fault:
             raise NotRead(f"{self.path}: {fault}") from fault
 
 
-def unpack(answer: BinaryIO, question: str) -> Iterator[bytes]:
-    """The pieces of an answer; NotRead where it is cut, or ends badly."""
+def unpack(answer: BinaryIO, question: str) -> Generator[bytes, None, bool]:
+    """The pieces of an answer, and whether the book is in use; NotRead where it is cut, or ends
+    badly."""
     while size := int.from_bytes(exactly(answer, LENGTH, question), "little"):
         yield exactly(answer, size, question)
-    if exactly(answer, 1, question) != b"\0":
+    status = exactly(answer, 1, question)
+    if status not in (WELL, USED):
         why = answer.read(PIECE).decode(errors="replace")
         raise NotRead(f"{question}: {why[:200]}")
+    return status == USED
 
 
 def exactly(answer: BinaryIO, size: int, question: str) -> bytes:
@@ -110,15 +130,15 @@ def exactly(answer: BinaryIO, size: int, question: str) -> bytes:
     return got
 
 
-def pack(pieces: Iterator[bytes], out: BinaryIO) -> None:
-    """Writes an answer, and how it ended."""
+def pack(reader: Reader, pieces: Iterator[bytes], out: BinaryIO) -> None:
+    """Writes an answer of a reader, and how it ended."""
     try:
         for piece in pieces:
             out.write(len(piece).to_bytes(LENGTH, "little") + piece)
     except NotRead as fault:
-        out.write(bytes(LENGTH) + b"\1" + str(fault).encode())
+        out.write(bytes(LENGTH) + BADLY + str(fault).encode())
     else:
-        out.write(bytes(LENGTH) + b"\0")
+        out.write(bytes(LENGTH) + (USED if reader.in_use else WELL))
     out.flush()
 
 
@@ -126,25 +146,19 @@ def serve_one(program: str, folder: str) -> None:
     """Answers the one question of standard input on standard output."""
     words = sys.stdin.buffer.readline(QUESTION_BYTES).decode("ascii", errors="replace").split(" ")
     command, book, word = (*[word.strip() for word in words], "", "", "")[:3]
-    pack(Program(program, folder).ask(book, command, word), sys.stdout.buffer)
+    reader = Program(program, folder)
+    pack(reader, reader.ask(book, command, word), sys.stdout.buffer)
 
 
-class Follows:
-    """A book at rest as a source of rows: one answer has all that `hall acts` prints."""
-
-    is_new = False
-
-    def __init__(self, reader: Reader, book: str) -> None:
-        self.reader = reader
-        self.book = book
-
-    def text(self, after: int) -> Iterator[str]:
-        """Whole lines behind a row, some thousands at a time."""
-        rest = b""
-        for piece in self.reader.ask(self.book, "acts", str(after) if after else ""):
-            whole, lf, rest_of = (rest + piece).rpartition(b"\n")
-            rest = rest_of
-            if lf:
-                yield (whole + lf).decode("ascii")
-        if rest:
-            raise NotRead(f"acts of {self.book}: the last line is cut")
+def at_rest(reader: Reader, find: Callable[[], Found]) -> Found:
+    """What is found by answers that lack no row, each of which `find` reads to its end. NotRead
+    where the book stays in use."""
+    for turn in range(TRIES):
+        time.sleep(min(turn, 1))
+        reader.in_use = False
+        found = find()
+        if not reader.in_use:
+            return found
+    raise NotRead(
+        "the book is in use, so that its newest row can't be read: it is compared at rest"
+    )

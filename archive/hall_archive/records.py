@@ -38,14 +38,24 @@ class Records:
             link.execute(table.insert().values(record._asdict()))
         return record
 
-    def all(self, hall: str, kind: str = "", subject: str = "") -> list[Record]:
-        """Records of a hall, the oldest first."""
+    def all(
+        self,
+        hall: str,
+        given: dict[str, str] | None = None,
+        low: int | None = None,
+        high: int | None = None,
+    ) -> list[Record]:
+        """Records of a hall, the oldest first; `given` are values of columns, where they aren't
+        empty. From `low` on and before `high`, in ms of UTC."""
         table = schema.evidence.c
         wanted = select(*FIELDS).where(table.hall == hall).order_by(table.id)
-        if kind:
-            wanted = wanted.where(table.kind == kind)
-        if subject:
-            wanted = wanted.where(table.subject == subject)
+        for column, value in (given or {}).items():
+            if value:
+                wanted = wanted.where(table[column] == value)
+        if low is not None:
+            wanted = wanted.where(table.moment >= low)
+        if high is not None:
+            wanted = wanted.where(table.moment < high)
         with reaching(self.engine.connect) as link:
             return [Record(*row) for row in link.execute(wanted)]
 

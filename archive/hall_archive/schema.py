@@ -1,7 +1,7 @@
 """The tables of the archive, for SQLite and PostgreSQL. Masses in mg, times in ms of UTC since
 1970-01-01, days since then; `book` is the number of a row of `book`. Codes are the places in
-`rows.PRIORS`, `rows.SIGNALS` and `nets.PILES`. Rows of `pack`, `act`, `move`, `answer`, `person`,
-`refused_line` and `evidence` are only ever inserted."""
+`rows.PRIORS`, `rows.SIGNALS` and `nets.PILES`. Rows of `pack`, `block`, `act`, `move`, `answer`,
+`person`, `refused_line` and `evidence` are only ever inserted."""
 
 from sqlalchemy import (
     BigInteger,
@@ -58,12 +58,27 @@ pack = Table(
     PrimaryKeyConstraint("book", "row", name="pack_key"),
     sqlite_with_rowid=False,
 )
-Index(
-    "pack_rejected",
-    pack.c.book,
-    pack.c.row,
-    sqlite_where=pack.c.signal > 0,
-    postgresql_where=pack.c.signal > 0,
+for name, columns in (
+    ("pack_rejected", (pack.c.book, pack.c.row)),
+    ("pack_signal", (pack.c.book, pack.c.signal, pack.c.row)),
+):
+    rejects = pack.c.signal > 0
+    Index(name, *columns, sqlite_where=rejects, postgresql_where=rejects)
+
+# the sums of `keeping.BLOCK` rows each, of those that are whole
+block = Table(
+    "block",
+    metadata,
+    Column("gross", BigInteger, nullable=False),
+    Column("batch", Integer, nullable=False),
+    Column("day", Integer, nullable=False),
+    Column("block", Integer, nullable=False),
+    Column("count", Integer, nullable=False),
+    Column("book", SmallInteger, nullable=False),
+    Column("lane", SmallInteger, nullable=False),
+    Column("signal", SmallInteger, nullable=False),
+    PrimaryKeyConstraint("book", "block", "batch", "day", "lane", "signal", name="block_key"),
+    sqlite_with_rowid=False,
 )
 
 move = Table(
@@ -76,6 +91,8 @@ move = Table(
     PrimaryKeyConstraint("book", "pack", name="move_key"),
     sqlite_with_rowid=False,
 )
+
+Index("move_pile", move.c.book, move.c.pile, move.c.pack)
 
 act = Table(
     "act",
@@ -121,7 +138,7 @@ answer = Table(
     PrimaryKeyConstraint("book", "upto", name="answer_key"),
     sqlite_with_rowid=False,
 )
-Index("answer_high", answer.c.book, answer.c.high)
+Index("answer_clock", answer.c.book, answer.c.clock, answer.c.high)
 
 # who an act is of: the first line of the front with its row
 person = Table(

@@ -11,6 +11,7 @@ from typing import NamedTuple
 
 from hall_archive import checks, following, people
 from hall_archive.following import Behind, Follower, OtherBook, Unanswered, Unkept
+from hall_archive.persons import Persons
 from hall_archive.questions import Books
 from hall_archive.reading import NotRead, Reader
 from hall_archive.rows import bytes_of
@@ -23,6 +24,9 @@ PEOPLE_EVERY = 1.0
 WITNESS_EVERY = 60.0
 # The hour of UTC at which the book's fingerprint is taken each night.
 NIGHT = 2
+# How often the fingerprint of as many rows is asked for: another reader of the book, as a backup,
+# keeps its newest row from it for a moment, a running hall until the next row.
+AUDITS = 3
 # Lines of the front that wait for their row at most.
 WAITING_LINES = 10_000
 
@@ -89,8 +93,8 @@ class People:
     """Ties what the front wrote to the rows of a book."""
 
     def __init__(self, store: Store, path: str) -> None:
-        self.store = store
-        self.log = people.Log(path, store.place(path))
+        self.store, self.persons = store, Persons(store)
+        self.log = people.Log(path, self.persons.place(path))
         self.waiting: list[str] = []
         self.begin = self.log.place
 
@@ -102,15 +106,15 @@ class People:
             return
         upto = self.store.cursor().upto
         given = [*self.waiting, *lines]
-        tied, waiting = people.tie_lines(given, self.store.name, upto, self.store)
+        tied, waiting = people.tie_lines(given, self.store.name, upto, self.persons)
+        # where this fails all of it is read again
+        self.persons.keep(self.log.path, self.begin if waiting else place, tied)
+        self.waiting, self.log.place = waiting[-WAITING_LINES:], place
+        if not waiting:
+            self.begin = place
         for one in tied:
             if one.fault:
                 log.warning("the front has a line of no act: %s", one.fault)
-        self.waiting = waiting[-WAITING_LINES:]
-        self.log.place = place
-        self.store.keep_people(self.log.path, self.begin if self.waiting else place, tied)
-        if not self.waiting:
-            self.begin = place
 
 
 class Audit(NamedTuple):
@@ -131,10 +135,10 @@ class Witnessing:
         self.reader = reader
         self.running = Running()
         self.night = ""
-        # how many rows the next fingerprint is of at least, where one is due; and by how many rows
-        # the program was asked for it last
+        # how many rows the next fingerprint is of at least, where one is due; by how many rows the
+        # program was asked for it last, and how often
         self.due: int | None = None
-        self.asked = 0
+        self.asked, self.tries = 0, 0
 
     def look(self, has_closed: bool, moment: int) -> None:
         """Appends the lines that are due; an alarm where the book has other rows than the
@@ -142,8 +146,10 @@ class Witnessing:
         upto = self.store.cursor().upto
         if upto and (self.is_night(moment) or has_closed or self.running.rows == 0):
             self.due, self.asked = upto, 0
-        if self.due is not None and self.asked != upto:
-            self.asked = upto
+        if self.asked != upto:
+            self.asked, self.tries = upto, 0
+        if self.due is not None and self.tries < AUDITS:
+            self.tries += 1
             if audit := self.audit(upto):
                 self.hold(audit, moment)
         if upto > self.running.rows:

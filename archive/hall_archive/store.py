@@ -1,10 +1,9 @@
 """The archive's database: opened, migrated, and what a follower reads and keeps there. This module
 and `questions` alone import sqlalchemy."""
 
-import io
 import logging
 import os
-from collections.abc import Callable, Iterator, Sequence
+from collections.abc import Callable, Iterator
 from contextlib import contextmanager
 from typing import Any
 
@@ -16,25 +15,19 @@ from sqlalchemy.exc import DBAPIError, TimeoutError
 from sqlalchemy.pool import QueuePool
 
 from hall_archive import nets, schema
-from hall_archive.clock import Answer, Clock
-from hall_archive.following import BatchRow, Behind, Cursor, Taken, Unkept
-from hall_archive.people import Place, Tied
+from hall_archive.clock import Clock
+from hall_archive.following import Cursor, Taken, Unkept
+from hall_archive.keeping import Keeper
 from hall_archive.rows import MAX_ROWS, PRIORS, SIGNALS, Entry, Weigh, line_of, read_line
 
 MIGRATIONS = os.path.join(os.path.dirname(os.path.abspath(__file__)), "migrations")
 # Seconds that a writer of SQLite waits for another.
 BUSY = 30
-KINDS = ("live", "late", "step")
 # Rows that are read from the database at once.
 CHUNK = 8_192
 WEIGHINGS = """
     SELECT row, by, lane, gross, prior, signal FROM pack
     WHERE book = %d AND row > %d AND row <= %d ORDER BY row"""
-# those of each commit, without what sqlalchemy's Core adds to their time; %s is a place of a value
-MOVE_CURSOR = "UPDATE book SET upto = %s, asked = %s, clock = %s WHERE id = %s AND upto = %s"
-PUT_BATCH = """
-    UPDATE batch SET name = %s, product = %s, state = %s, verdict = %s, first = %s, last = %s,
-    closed = %s WHERE book = %s AND row = %s"""
 # by the range of each open batch, so that the closed ones cost nothing
 OPEN_WEIGHINGS = """
     SELECT p.row, p.by, p.lane, p.gross, p.prior, p.signal FROM batch b
@@ -98,10 +91,8 @@ class Store:
         self.reads = open_engine(engine.url)
         self.hall = hall
         self.name = name
-        self.is_postgres = engine.dialect.name == "postgresql"
-        self.place_mark = "%s" if self.is_postgres else "?"
-        self.clocks: dict[Clock, int] = {}
         self.book = self.number()
+        self.keeper = Keeper(engine, reaching, self.book, name)
 
     def number(self) -> int:
         """The number of the book here; it is put in where it is new."""
@@ -197,131 +188,7 @@ class Store:
     def keep(self, taken: Taken) -> None:
         """Keeps what was taken, all of it or nothing; Behind where the archive is at another
         row than this begins."""
-        with reaching(self.engine.begin) as link:
-            clock = self.clock_number(link, taken.clock)
-            moved = (taken.upto, taken.asked, clock, self.book, taken.after)
-            if self.hot(link, MOVE_CURSOR, moved) != 1:
-                raise Behind(f"{self.name}: the archive isn't at row {taken.after}")
-            self.insert(link, "pack", [(*pack, self.book, *more) for pack, more in taken.packs])
-            moves = [(m.pack, m.row, self.book, nets.PILES.index(m.pile)) for m in taken.moves]
-            self.insert(link, "move", moves)
-            acts = [(row, self.book, batch, *more) for row, batch, *more in taken.acts]
-            self.insert(link, "act", acts)
-            self.insert(link, "answer", [self.answer_row(link, one) for one in taken.answers])
-            for batch in taken.batches:
-                self.put_batch(link, batch)
-
-    def hot(self, link: Any, statement: str, values: tuple[Any, ...]) -> int:
-        """Runs a statement of each commit; how many rows it changed."""
-        done = link.exec_driver_sql(statement.replace("%s", self.place_mark), values)
-        return int(done.rowcount)
-
-    def clock_number(self, link: Any, clock: Clock | None) -> int | None:
-        """The number of a clock here; it is put in where it is new."""
-        if clock is None:
-            return None
-        if clock not in self.clocks:
-            table = schema.clock
-            same = (table.c.boot == clock.boot, table.c.offset == clock.offset)
-            found = link.execute(select(table.c.id).where(*same)).scalar()
-            if found is None:
-                added = link.execute(table.insert().values(boot=clock.boot, offset=clock.offset))
-                return int(added.inserted_primary_key[0])
-            self.clocks[clock] = int(found)
-        return self.clocks[clock]
-
-    def answer_row(self, link: Any, one: Answer) -> tuple[Any, ...]:
-        clock = self.clock_number(link, one.clock)
-        return one.low, one.high, one.upto, clock, self.book, KINDS.index(one.kind)
-
-    def put_batch(self, link: Any, batch: BatchRow) -> None:
-        row, *values = batch
-        if self.hot(link, PUT_BATCH, (*values, self.book, row)) == 0:
-            link.execute(schema.batch.insert().values(book=self.book, **batch._asdict()))
-
-    def insert(self, link: Any, table: str, rows: Sequence[tuple[Any, ...]]) -> None:
-        """Inserts rows whose values stand in the order of the table's columns."""
-        if not rows:
-            return
-        if self.is_postgres:
-            self.copy(link, table, copied(rows))
-        else:
-            marks = ", ".join("?" * len(rows[0]))
-            link.exec_driver_sql(f"INSERT INTO {table} VALUES ({marks})", rows)
-
-    def copy(self, link: Any, table: str, text: str) -> None:
-        """Copies rows into PostgreSQL, past sqlalchemy, which else makes its errors one of its
-        own."""
-        try:
-            with link.connection.cursor() as cursor:
-                cursor.copy_expert(f"COPY {table} FROM STDIN", io.StringIO(text))
-        except self.engine.dialect.dbapi.Error as fault:
-            raise Unkept(str(fault).strip()) from fault
-
-    # ---- persons
-
-    def place(self, path: str) -> Place:
-        table = schema.front_log.c
-        with reaching(self.reads.connect) as link:
-            found = link.execute(
-                select(table.file, table.place).where(table.path == self.log(path))
-            ).one_or_none()
-        return Place(*found) if found else Place(0, 0)
-
-    def log(self, path: str) -> str:
-        """How a log is named here; each book reads it for itself."""
-        return f"{self.hall} {self.name} {path}"
-
-    def keep_people(self, path: str, place: Place, tied: list[Tied]) -> None:
-        """Keeps who acted, the first of each row, and how far the log was read."""
-        with reaching(self.engine.begin) as link:
-            for one in tied:
-                self.keep_person(link, one)
-            table = schema.front_log
-            values = {"file": place.file, "place": place.place}
-            same = table.c.path == self.log(path)
-            if link.execute(table.update().where(same).values(values)).rowcount == 0:
-                link.execute(table.insert().values(path=self.log(path), **values))
-
-    def keep_person(self, link: Any, one: Tied) -> None:
-        if one.fault:
-            values = {"book": self.book, "line": one.line, "why": one.fault}
-            link.execute(schema.refused_line.insert().values(values))
-            return
-        table = schema.person
-        same = (table.c.book == self.book, table.c.row == one.row)
-        if link.execute(select(table.c.row).where(*same)).first() is None:
-            low, high = one.hour or self.hour(link, one.row)
-            values = {"book": self.book, "row": one.row, "name": one.person}
-            values |= {"reason": one.reason, "low": low, "high": high}
-            link.execute(table.insert().values(values))
-
-    def hour(self, link: Any, row: int) -> tuple[int, int]:
-        """When a row came, where the front doesn't say when it was asked for first."""
-        table = schema.answer.c
-        of = (table.book == self.book, table.upto >= row)
-        wanted = select(table.low, table.high).where(*of).order_by(table.upto).limit(1)
-        low, high = link.execute(wanted).one()
-        return high if low is None else low, high
-
-    def act_at(self, row: int) -> Entry | None:
-        """The act of a row; None where the row is a weighing or isn't here."""
-        table = schema.act.c
-        with reaching(self.reads.connect) as link:
-            found = link.execute(
-                select(table.line).where(table.book == self.book, table.row == row)
-            ).scalar()
-        return read_line(found) if found else None
-
-    def act_of(self, desk: int, request: int, upto: int) -> Entry | None:
-        """The act of a desk and a request among the first `upto` rows. It is looked for backwards:
-        an act is asked again soon."""
-        table = schema.act.c
-        of = (table.book == self.book, table.row <= upto)
-        wanted = select(table.line).where(*of, table.line.contains(f"\t@{desk} {request} "))
-        with reaching(self.reads.connect) as link:
-            found = link.execute(wanted.order_by(table.row.desc()).limit(1)).scalar()
-        return read_line(found) if found else None
+        self.keeper.keep(taken)
 
     # ---- alarms
 
@@ -350,17 +217,3 @@ def merged(acts: Iterator[Entry], weighings: Iterator[Entry]) -> Iterator[Entry]
     if act:
         yield act
         yield from acts
-
-
-def copied(rows: Sequence[tuple[Any, ...]]) -> str:
-    """Rows as COPY of PostgreSQL reads them. No text of a book has a tab, a line break or a
-    backslash but the line of an act, whose tabs are escaped."""
-    return "".join("\t".join(map(field, row)) + "\n" for row in rows)
-
-
-def field(value: Any) -> str:
-    if value is None:
-        return "\\N"
-    if isinstance(value, int):
-        return str(value)
-    return str(value).replace("\\", "\\\\").replace("\t", "\\t").replace("\n", "\\n")

@@ -15,12 +15,15 @@ from hall_archive.following import Unkept
 from hall_archive.reading import NAME
 from hall_archive.records import Records
 from hall_archive.rows import MAX_ROWS
-from hall_archive.search import BadQuestion, Search
+from hall_archive.packs import Wanted
+from hall_archive.search import Search
 from hall_archive.settings import Settings
+from hall_archive.spans import BadQuestion, Behind, Time
 
 # Texts of a question: names of books, batches, products, persons.
 Word = Query(default="", max_length=64)
-Time = Query(default=None, ge=0, le=1 << 52, description="ms of UTC since 1970-01-01")
+Moment = Query(default=None, ge=0, le=1 << 52, description="ms of UTC since 1970-01-01")
+# Where a page begins: behind row `after` of the book `begin`, or of the book that is asked for.
 After = Query(default=0, ge=0, le=MAX_ROWS)
 Row = Path(ge=1, le=MAX_ROWS)
 Front = Header(max_length=64)
@@ -71,6 +74,29 @@ def add_faults(app: Any) -> None:
 
 
 def add_questions(app: Any, search: Search, halls: Halls) -> None:
+    add_books(app, search, halls)
+    add_packs(app, search, halls)
+
+    @app.get("/acts")  # type: ignore[misc]
+    def acts(
+        x_book: str = Front,
+        book: str = Word,
+        batch: str = Word,
+        product: str = Word,
+        kind: str = Word,
+        person: str = Word,
+        low: int | None = Moment,
+        high: int | None = Moment,
+        begin: str = Word,
+        after: int = After,
+    ) -> Any:
+        """Acts with persons, reasons and hours, over all books of the hall."""
+        given = {"batch": batch, "product": product, "kind": kind, "person": person}
+        behind = Behind(begin, after)
+        return search.acts(halls.of(x_book), book, given, Time(low, high), behind)
+
+
+def add_books(app: Any, search: Search, halls: Halls) -> None:
     @app.get("/books")  # type: ignore[misc]
     def books(x_book: str = Front) -> Any:
         """The books of the hall: how many rows of each were taken, and until when it was asked."""
@@ -83,59 +109,49 @@ def add_questions(app: Any, search: Search, halls: Halls) -> None:
         name: str = Word,
         product: str = Word,
         state: str = Word,
-        low: int | None = Time,
-        high: int | None = Time,
+        verdict: str = Word,
+        low: int | None = Moment,
+        high: int | None = Moment,
+        begin: str = Word,
         after: int = After,
     ) -> Any:
         """Batches, over all books of the hall."""
-        given = {"book": book, "name": name, "product": product, "state": state}
-        return search.batches(halls.of(x_book), **given, low=low, high=high, after=after)
+        given = {"name": name, "product": product, "state": state, "verdict": verdict}
+        behind = Behind(begin, after)
+        return search.batches(halls.of(x_book), book, given, Time(low, high), behind)
 
-    @app.get("/packs/{book}")  # type: ignore[misc]
+    @app.get("/totals/{book}")  # type: ignore[misc]
+    def totals(
+        book: str, x_book: str = Front, low: int | None = Moment, high: int | None = Moment
+    ) -> Any:
+        """What was weighed in a span, by batch, lane and signal."""
+        return search.totals(halls.of(x_book), book, Time(low, high))
+
+
+def add_packs(app: Any, search: Search, halls: Halls) -> None:
+    @app.get("/packs")  # type: ignore[misc]
     def packs(
-        book: str,
         x_book: str = Front,
+        book: str = Word,
         batch: str = Word,
         product: str = Word,
         lane: int = Query(default=0, ge=0, le=16),
         signal: str = Word,
         pile: str = Word,
-        low: int | None = Time,
-        high: int | None = Time,
+        low: int | None = Moment,
+        high: int | None = Moment,
+        begin: str = Word,
         after: int = After,
     ) -> Any:
-        """Packs of a book, behind row `after`; `signal` may be `reject` for every reject."""
-        given: dict[str, Any] = {"batch": batch, "product": product, "signal": signal, "pile": pile}
-        given |= {"lane": lane, "low": low, "high": high, "after": after}
-        return search.packs(halls.of(x_book), book, **given)
+        """Packs, over all books of the hall; `signal` may be `reject` for every reject."""
+        wanted = Wanted(batch, product, lane, signal, pile)
+        behind = Behind(begin, after)
+        return search.packs(halls.of(x_book), book, wanted, Time(low, high), behind)
 
     @app.get("/packs/{book}/{row}")  # type: ignore[misc]
     def story(book: str, row: int = Row, x_book: str = Front) -> Any:
         """A pack with its hour, its place on its lane, and the acts that speak of it."""
         return search.story(halls.of(x_book), book, row)
-
-    @app.get("/acts")  # type: ignore[misc]
-    def acts(
-        x_book: str = Front,
-        book: str = Word,
-        batch: str = Word,
-        product: str = Word,
-        kind: str = Word,
-        person: str = Word,
-        low: int | None = Time,
-        high: int | None = Time,
-        after: int = After,
-    ) -> Any:
-        """Acts with persons, reasons and hours, over all books of the hall."""
-        given = {"book": book, "batch": batch, "product": product, "kind": kind, "person": person}
-        return search.acts(halls.of(x_book), **given, low=low, high=high, after=after)
-
-    @app.get("/totals/{book}")  # type: ignore[misc]
-    def totals(
-        book: str, x_book: str = Front, low: int | None = Time, high: int | None = Time
-    ) -> Any:
-        """What was weighed in a span, by batch, lane and signal."""
-        return search.totals(halls.of(x_book), book, low, high)
 
 
 def add_texts(app: Any, search: Search, halls: Halls) -> None:
@@ -156,9 +172,17 @@ def add_texts(app: Any, search: Search, halls: Halls) -> None:
 
 def add_evidence(app: Any, records: Records, halls: Halls, days: dict[str, int]) -> None:
     @app.get("/evidence")  # type: ignore[misc]
-    def found(x_book: str = Front, kind: str = Word, subject: str = Word) -> Any:
+    def found(
+        x_book: str = Front,
+        kind: str = Word,
+        subject: str = Word,
+        person: str = Word,
+        low: int | None = Moment,
+        high: int | None = Moment,
+    ) -> Any:
         """Evidence of the hall, the oldest first."""
-        return [shown(one) for one in records.all(halls.of(x_book), kind, subject)]
+        given = {"kind": kind, "subject": subject, "person": person}
+        return [shown(one) for one in records.all(halls.of(x_book), given, low, high)]
 
     @app.get("/newest")  # type: ignore[misc]
     def newest(x_book: str = Front) -> Any:

@@ -8,13 +8,13 @@ fingerprint of `hall audit --rows ROWS`. Anybody can do the same: `hall ship` of
 without its head of 16 bytes, through `sha256sum`."""
 
 import hashlib
-import os
 import re
 from collections.abc import Iterable, Iterator
 from concurrent.futures import ThreadPoolExecutor
 from datetime import UTC, datetime
 from typing import BinaryIO, NamedTuple
 
+from hall_archive.appending import append, whole_lines
 from hall_archive.rows import ROW_BYTES
 
 SHIPMENT = b"AQHSHIP2"
@@ -113,26 +113,16 @@ class Witness:
 
     def read(self) -> None:
         """Reads what stands; a last line that a kill has cut is taken off."""
-        try:
-            with open(self.path, encoding="ascii") as file:
-                text = file.read()
-        except FileNotFoundError:
-            return
-        whole = text[: text.rfind("\n") + 1]
-        if whole != text:
-            os.truncate(self.path, len(whole))
+        whole = whole_lines(self.path)
         self.lines = read_lines(whole)
         if whole:
             self.before = digest_of(whole.splitlines()[-1])
 
     def append(self, moment: int, rows: int, digest: str, audit: str = "") -> str:
-        """Appends a line, and syncs it; the line."""
+        """Appends a line, and syncs it; the line. OSError where it can't be: then none is there."""
         line = Line(utc_text(moment), rows, digest, self.before, audit)
         text = str(line)
-        with open(self.path, "a", encoding="ascii") as file:
-            file.write(f"{text}\n")
-            file.flush()
-            os.fsync(file.fileno())
+        append(self.path, f"{text}\n")
         self.lines.append(line)
         self.before = digest_of(text)
         return text
@@ -151,6 +141,12 @@ def read_shipment(file: BinaryIO) -> bytes:
     if len(body) != rows * ROW_BYTES:
         raise Differs(f"{rows} rows were to come, and {len(body)} bytes did")
     return body
+
+
+def without_newest(lines: list[Line], body: bytes) -> list[Line]:
+    """The lines but for those of one row more than a book in use gives away."""
+    newest = len(body) // ROW_BYTES + 1
+    return [line for line in lines if line.rows != newest]
 
 
 def check(lines: list[Line], body: bytes) -> int:

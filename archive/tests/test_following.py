@@ -14,7 +14,8 @@ from small_book import LINES, long_book
 
 from hall_archive import following
 from hall_archive.clock import Moment
-from hall_archive.following import Behind, Door, Follower, OtherBook, Spool, Unanswered
+from hall_archive.door import Door
+from hall_archive.following import Behind, Follower, OtherBook, Spool, Unanswered
 from hall_archive.rows import PAGE_ROWS
 
 
@@ -176,6 +177,39 @@ class Following(unittest.TestCase):
         self.assertEqual(self.archive.answers()[:3], hours)
         self.assertEqual(self.archive.answers()[3].upto, 70)
         self.assertEqual(self.archive.text(), "".join(lines[:70]))
+        self.assertFalse(os.path.exists(self.spool))
+
+    def test_hours_wait_where_their_file_has_no_room_either(self) -> None:
+        lines = long_book(100).splitlines(keepends=True)
+        follower = self.follower()
+        self.archive.fails = 2
+        full = mock.patch.object(following, "append", side_effect=OSError("no room"))
+        with full:
+            for part in (20, 60):
+                self.door.set("".join(lines[:part]))
+                follower.tried = 0.0
+                follower.step()
+        follower.tried = 0.0
+        follower.step()
+        self.assertEqual([one.upto for one in self.archive.answers()], [20, 60])
+        self.assertEqual(self.archive.text(), "".join(lines[:60]))
+
+    def test_hours_in_the_file_stay_until_their_rows_are_kept(self) -> None:
+        lines = long_book(300).splitlines(keepends=True)
+        follower = self.follower()
+        self.archive.fails = 100
+        for part in (100, 200, 250):
+            self.door.set("".join(lines[:part]))
+            follower.tried = 0.0
+            follower.step()
+        hours = list(follower.waiting.answers)
+        # some of their rows are kept, and the next follower is killed too
+        self.archive.fails = 0
+        for part in (150, 250):
+            self.follow("".join(lines[:part]))
+        found = {one.upto: one._replace(upto=0) for one in self.archive.answers()}
+        due = {one.upto: one._replace(upto=0) for one in hours}
+        self.assertEqual(found, due | {128: due[200], 150: due[200]})
         self.assertFalse(os.path.exists(self.spool))
 
     def test_polls_go_on_in_an_outage(self) -> None:

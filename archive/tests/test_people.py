@@ -62,8 +62,8 @@ class Lines(unittest.TestCase):
 class Acts:
     """The acts of the small book."""
 
-    def act_at(self, row: int) -> Entry | None:
-        return ENTRIES.get(row)
+    def acts_at(self, rows: list[int]) -> dict[int, Entry]:
+        return {row: ENTRIES[row] for row in rows if row in ENTRIES}
 
     def act_of(self, desk: int, request: int, upto: int) -> Entry | None:
         of = (desk, request)
@@ -79,7 +79,7 @@ class Ties(unittest.TestCase):
     def tied(self, row: int, request: int, **more: object) -> Tied:
         found = read_line(line(row, request, **more), "day")
         assert found
-        return tie(found, Acts())
+        return tie(found, ENTRIES.get(row), Acts())
 
     def test_ties(self) -> None:
         first = self.tied(13, 2)

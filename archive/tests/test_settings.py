@@ -1,9 +1,12 @@
 """Settings, and what may be asked of the program."""
 
 import io
+import os
+import tempfile
 import unittest
+from unittest import mock
 
-from hall_archive.reading import NotRead, Program, Socket, options_of, pack, unpack
+from hall_archive.reading import NotRead, Program, Socket, at_rest, options_of, pack, unpack
 from hall_archive.settings import BadSettings, read_settings
 
 GOOD = """
@@ -91,12 +94,47 @@ class Questions(unittest.TestCase):
 
     def test_answers(self) -> None:
         out = io.BytesIO()
-        pack(iter([b"ab", b"c" * 3]), out)
+        pack(Program("", ""), iter([b"ab", b"c" * 3]), out)
         self.assertEqual(list(unpack(io.BytesIO(out.getvalue()), "q")), [b"ab", b"ccc"])
         for size in range(len(out.getvalue())):
             with self.assertRaises(NotRead):
                 list(unpack(io.BytesIO(out.getvalue()[:size]), "q"))
-        out = io.BytesIO()
-        pack(Program("/bin/false", "/tmp").ask("day", "export"), out)
+        out, reader = io.BytesIO(), Program("/bin/false", "/tmp")
+        pack(reader, reader.ask("day", "export"), out)
         with self.assertRaisesRegex(NotRead, "ends with 1"):
             list(unpack(io.BytesIO(out.getvalue()), "q"))
+
+    def test_a_book_in_use_is_told_behind_the_socket_too(self) -> None:
+        reader = Program("", "")
+        for in_use in (False, True):
+            reader.in_use, answer = in_use, io.BytesIO()
+            pack(reader, iter([b"ab"]), answer)
+            pieces = unpack(io.BytesIO(answer.getvalue()), "q")
+            self.assertEqual(next(pieces), b"ab")
+            with self.assertRaises(StopIteration) as end:
+                next(pieces)
+            self.assertIs(end.exception.value, in_use)
+
+    def test_in_use_by_what_the_program_says(self) -> None:
+        with tempfile.TemporaryDirectory() as folder:
+            for said, in_use in (("it is in use; 7 rows were read", True), ("other", False)):
+                path = f"{folder}/program"
+                with open(path, "w", encoding="ascii") as script:
+                    script.write(f"#!/bin/sh\necho text\necho 'hall: b.book: {said}' >&2\n")
+                os.chmod(path, 0o755)
+                reader = Program(path, folder)
+                self.assertEqual(list(reader.ask("b", "export")), [b"text\n"])
+                self.assertIs(reader.in_use, in_use)
+
+    def test_what_is_found_at_rest(self) -> None:
+        reader, uses = Program("", ""), iter([True, True, False])
+
+        def find() -> str:
+            reader.in_use = next(uses)
+            return "lacks" if reader.in_use else "whole"
+
+        with mock.patch("hall_archive.reading.time.sleep"):
+            self.assertEqual(at_rest(reader, find), "whole")
+            uses = iter([True] * 99)
+            with self.assertRaisesRegex(NotRead, "in use"):
+                at_rest(reader, find)

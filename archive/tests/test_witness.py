@@ -17,6 +17,7 @@ from hall_archive.witness import (
     fingerprint,
     read_lines,
     read_shipment,
+    without_newest,
 )
 
 ROWS = [bytes_of(entry) for entry in read_text(LINES, 0)]
@@ -90,6 +91,12 @@ class Lines(unittest.TestCase):
         with self.assertRaises(Differs):
             check(lines, b"".join([ROWS[1], ROWS[0], *ROWS[2:]]))
         self.assertEqual(check(lines, BODY + bytes(96)), 1)
+
+    def test_the_newest_row_of_a_book_in_use_waits(self) -> None:
+        self.write()
+        lines = read_lines(self.text())
+        for rows, due in ((16, 2), (17, 3), (15, 3)):
+            self.assertEqual(len(without_newest(lines, BODY[: 96 * rows])), due)
 
     def test_changed_lines_are_found(self) -> None:
         self.write()

@@ -1,12 +1,14 @@
 -- How far the packs of a batch reach among all packs, and what is kept of it.
-use Rattle.std.proofs.Common.{◌≡◌, ℕ, zero, suc, ◌+◌, ◌<◌, ◌≤◌, Bool, true, false, cond, ◌||◌, eqb, ltb, inl, inr, List, [], ◌∷◌, ◌++◌, length, get_or, set, take, refl, ap, sym, subst, ◌∙◌, arith, length-append, length-set}
+use Rattle.std.proofs.Common.{◌≡◌, ℕ, zero, suc, ◌+◌, ◌<◌, ◌≤◌, Bool, true, false, cond, ◌||◌, eqb, ltb, inl, inr, List, [], ◌∷◌, ◌++◌, length, get_or, set, take, refl, ap, sym, subst, ◌∙◌, arith, true≢false, length-append, length-set}
 use Rattle.std.specs.List.{All}
 use Rattle.std.proofs.lemmas.Bool.{cases_lt, cases_eq, eq-eqb, eqb-true, ne_eqb, lt-ltb, ltb-false, or_parts, or_right}
 use Rattle.std.proofs.lemmas.List.{get_or_append_left, get_or_at, get_or-set_same, get_or-set_other, take_all, take-append-le}
 use Rattle.std.proofs.lemmas.List.Elements.{All-head, All-tail, All-push, All-weaker}
+use Rattle.batch_sums.specs.declared.types.Links.{Links}
 use Rattle.batch_sums.specs.declared.types.Pack.{Pack}
+use Rattle.std.proofs.lemmas.List.Sums.{sum_by-cons, sum_by_push}
 use Rattle.batch_sums.specs.Totals.{of_batch}
-use Rattle.batch_sums.specs.Kept.{IsChained, reach_of}
+use Rattle.batch_sums.specs.Kept.{IsChained, IsLinked, reach_of, rank_of}
 use Rattle.batch_sums.specs.Invariant.{homes_of}
 use Rattle.std.proofs.Math.Bool.{or-false}
 
@@ -81,6 +83,62 @@ module _ (batch : ℕ) where
           eqb-true home batch (sym (or-false (eqb home batch))
           ∙ ap (λ n. eqb home batch || ltb 0 n) (sym none) ∙ any)
 
+  -- none of the batch stands behind
+  pub reach-past : (homes : List ℕ) (place : ℕ) → reach_of batch homes ≤ place
+      → place < length homes → get_or homes place 0 ≡ batch → ⊥
+  reach-past [] place less within = absurd (omega (arith, within))
+  reach-past (home ∷ homes) place less within =
+      by (eqb home batch || ltb 0 (reach_of batch homes)) refl (reach-past homes) place less within
+    where
+      by : (b : Bool) → (eqb home batch || ltb 0 (reach_of batch homes)) ≡ b
+          → ((place : ℕ) → reach_of batch homes ≤ place → place < length homes
+          → get_or homes place 0 ≡ batch → ⊥)
+          → (place : ℕ) → cond b (reach_of batch homes + 1) 0 ≤ place
+          → place < length (home ∷ homes) → get_or (home ∷ homes) place 0 ≡ batch → ⊥
+      by true any rest zero less within = absurd (omega (arith, less))
+      by true any rest (suc place) less within =
+          rest place (omega (arith, less)) (omega (arith, within))
+      by false any rest zero less within =
+          λ own. true≢false (sym (eq-eqb home batch own)
+          ∙ (or_parts (eqb home batch) (ltb 0 (reach_of batch homes)) any).0)
+      by false any rest (suc place) less within =
+          let none = ltb-false 0 (reach_of batch homes)
+          (or_parts (eqb home batch) (ltb 0 (reach_of batch homes)) any).1 in
+          rest place (omega (arith, none)) (omega (arith, within))
+
+  -- so those of the batch are counted as far as they reach
+  pub rank-reach : (homes : List ℕ)
+      → rank_of batch (take (reach_of batch homes) homes) ≡ rank_of batch homes
+  rank-reach [] = refl
+  rank-reach (home ∷ homes) =
+      by (eqb home batch || ltb 0 (reach_of batch homes)) refl (rank-reach homes)
+    where
+      one : ℕ → ℕ
+      one other = cond (eqb other batch) 1 0
+
+      by : (b : Bool) → (eqb home batch || ltb 0 (reach_of batch homes)) ≡ b
+          → rank_of batch (take (reach_of batch homes) homes) ≡ rank_of batch homes
+          → rank_of batch (take (cond b (reach_of batch homes + 1) 0) (home ∷ homes))
+          ≡ rank_of batch (home ∷ homes)
+      by true any rest =
+          let next : suc (reach_of batch homes) ≡ reach_of batch homes + 1 = omega arith in
+          subst (λ n. rank_of batch (take n (home ∷ homes)) ≡ rank_of batch (home ∷ homes)) next
+          (sum_by-cons one home (take (reach_of batch homes) homes)
+          ∙ ap (λ n. one home + n) rest ∙ sym (sum_by-cons one home homes))
+      by false any rest =
+          let none = or_parts (eqb home batch) (ltb 0 (reach_of batch homes)) any in
+          let short : reach_of batch homes ≡ 0 =
+          omega (arith, ltb-false 0 (reach_of batch homes) none.1) in
+          let absent : one home ≡ 0 = ap (λ b. cond b 1 0) none.0 in
+          let empty : rank_of batch (take (reach_of batch homes) homes) ≡ 0 =
+          ap (λ n. rank_of batch (take n homes)) short in
+          omega (arith, sum_by-cons one home homes, absent, empty, rest)
+
+  pub rank-push_own : (homes : List ℕ) → rank_of batch (homes ++ batch ∷ []) ≡ rank_of batch homes + 1
+  rank-push_own homes =
+      sum_by_push (λ other. cond (eqb other batch) 1 0) homes batch
+      ∙ ap (λ b. rank_of batch homes + cond b 1 0) (eq-eqb batch batch refl)
+
   -- all packs of a batch stand as far as they reach
   pub of_batch-reach : (packs : List Pack)
       → of_batch batch (take (reach_of batch (homes_of packs)) packs) ≡ of_batch batch packs
@@ -105,18 +163,17 @@ module _ (batch : ℕ) where
           ap (λ n. of_batch batch (take n packs)) (sym short) ∙ rest
           ∙ sym (ap (λ b. cond b (pack ∷ of_batch batch packs) (of_batch batch packs)) none.0)
 
-pub chained_new : IsChained [] [] []
-chained_new = record {
-  within = λ k d within. absurd (omega (arith, within));
-  newest =
-      λ batch within. absurd (omega (arith, within));
-  before =
-      λ place within. absurd (omega (arith, within));
-}
+linked_as : (batch new_batch : ℕ) (homes new_homes : List ℕ) (links new_links : Links)
+    → batch ≡ new_batch → homes ≡ new_homes → links ≡ new_links → IsLinked batch homes links
+    → IsLinked new_batch new_homes new_links
+linked_as batch new_batch homes new_homes links new_links first second third linked =
+    subst (λ b. IsLinked b new_homes new_links) first
+    (subst (λ hs. IsLinked batch hs new_links) second
+    (subst (λ (l : Links). IsLinked batch homes l) third linked))
 
-module _ (reaches homes befores : List ℕ) (chained : IsChained reaches homes befores) where
+module _ (reaches homes : List ℕ) (links : List Links) (chained : IsChained reaches homes links) where
   -- a batch without packs comes behind the others
-  pub chained_batch : IsChained (reaches ++ 0 ∷ []) homes befores
+  pub chained_batch : IsChained (reaches ++ 0 ∷ []) homes links
   chained_batch =
       record {
         within = All-weaker (λ home. home < length reaches)
@@ -132,14 +189,14 @@ module _ (reaches homes befores : List ℕ) (chained : IsChained reaches homes b
                   ∙ sym (ap (λ b. reach_of b homes) (sym same)
                   ∙ reach-none (length reaches) homes chained.within)
             ];
-        before = chained.before;
+        linked = chained.linked;
       }
 
   -- a pack comes behind the others
-  pub chained_put : (batch : ℕ) → batch < length reaches → length befores ≡ length homes
-      → IsChained (set reaches batch (length homes + 1)) (homes ++ batch ∷ [])
-      (befores ++ get_or reaches batch 0 ∷ [])
-  chained_put batch there long =
+  pub chained_put : (batch : ℕ) → batch < length reaches → length links ≡ length homes
+      → (own : Links) → IsLinked batch homes own
+      → IsChained (set reaches batch (length homes + 1)) (homes ++ batch ∷ []) (links ++ own ∷ [])
+  chained_put batch there long own linked =
       record {
         within = subst (λ n. All (λ home. home < n) (homes ++ batch ∷ []))
             (sym (length-set reaches batch (length homes + 1)))
@@ -157,21 +214,21 @@ module _ (reaches homes befores : List ℕ) (chained : IsChained reaches homes b
                   (omega (arith, within, length-set reaches batch (length homes + 1)))
                   ∙ sym (reach-push_other other homes batch (λ same. differs (sym same)))
             ];
-        before = λ place within.
+        linked = λ place other within.
             elim (cases_lt place (length homes)) [
               | inl less ↦
-                  get_or_append_left befores (get_or reaches batch 0 ∷ []) 0 place
-                  (omega (arith, less, long)) ∙ chained.before place less
-                  ∙ sym (λ i. reach_of (get_or_append_left homes (batch ∷ []) 0 place less i)
-                  (take-append-le place homes (batch ∷ []) (omega (arith, less)) i))
+                  let here = get_or_append_left homes (batch ∷ []) 0 place less in
+                  let before = take-append-le place homes (batch ∷ []) (omega (arith, less)) in
+                  let link = get_or_append_left links (own ∷ []) other place (omega (arith, less, long)) in
+                  linked_as _ _ _ _ _ _ (sym here) (sym before) (sym link)
+                  (chained.linked place other less)
               | inr not_less ↦
                   let same : length homes ≡ place =
                   omega (arith, within, not_less, length-append homes (batch ∷ [])) in
                   let all : take place (homes ++ batch ∷ []) ≡ homes =
                   take-append-le place homes (batch ∷ []) (omega (arith, same))
                   ∙ take_all place homes (omega (arith, same)) in
-                  get_or_at befores (get_or reaches batch 0) [] 0 place (long ∙ same)
-                  ∙ chained.newest batch there
-                  ∙ sym (λ i. reach_of (get_or_at homes batch [] 0 place same i) (all i))
+                  linked_as _ _ _ _ _ _ (sym (get_or_at homes batch [] 0 place same)) (sym all)
+                  (sym (get_or_at links own [] other place (long ∙ same))) linked
             ];
       }

@@ -3,18 +3,17 @@ use Rattle.std.proofs.Common.{◌≡◌, ℕ, ◌<◌, ◌≤◌, cond, eqb, Lis
 use Rattle.std.specs.Prelude.{pos, ◌≤ℤ◌}
 use Rattle.hall_limits.specs.declared.TheConstants.{MAX_DAY}
 use Rattle.std.specs.declared.alloc.Global.{Global}
-use Rattle.std.specs.List.{count_by, position}
+use Rattle.std.specs.List.{count_by}
 use Rattle.std.proofs.lemmas.List.{length-map}
 use Rattle.std.proofs.lemmas.List.Elements.{All-weaker}
-use Rattle.std.specs.HashMap.{get, spare}
 use Rattle.balanced_tree.specs.Trees.{items, IsBalanced}
 use Rattle.balanced_tree.specs.declared.tree.Tree.{Tree}
 use Rattle.batch_sums.specs.declared.sums.BatchSums.TheInside.{Inside}
 use Rattle.batch_sums.specs.declared.types.Held.{Held}
 use Rattle.pack_groups.specs.Groups.{Face, face_of, faces, nth_face, rank_of, nth_rank}
 use Rattle.pack_groups.specs.Index.{IsIndex}
-use Rattle.batch_sums.specs.Kept.{seen}
-use Rattle.batch_sums.specs.Invariant.{IsKept, inside, outside, homes_of, befores_of}
+use Rattle.batch_sums.specs.Kept.{seen, IsRising}
+use Rattle.batch_sums.specs.Invariant.{IsKept, inside, outside, homes_of, links_of, numbers_held}
 use Rattle.batch_sums.proofs.PackSums.{sum_by-same}
 use Rattle.batch_sums.proofs.Homes.{homes-keys, chained_as}
 use Rattle.pack_groups.proofs.NewGroups.{IsRising-agree}
@@ -66,7 +65,6 @@ kept_after before now visited tare start steps under kept =
     ≡ (nth_face (faces before.groups.items) place).key =
     λ place. ap (λ (f : Face). f.key) (under.face place)
     ∙ face_by-key visited tare place (nth_face (faces before.groups.items) place) in
-    let free : spare now.places ≡ spare before.places = ap spare under.places in
     let packs_long : vec_len now.packs ≡ vec_len before.packs =
     ap (λ (v : Vec Held Global). vec_len v) under.packs in
     let packs_room : vec_capacity now.packs ≡ vec_capacity before.packs =
@@ -89,24 +87,18 @@ kept_after before now visited tare start steps under kept =
         used = λ place within. subst (λ hs. 0 < count_by (λ pack. eqb pack.group place) hs)
             (sym packs) (settled.used place (omega (arith, within, groups)));
         small = omega (arith, settled.small, groups, ap (λ (hs : List Held). length hs) packs);
-        apart = λ number. subst (λ hs. count_by (λ pack. eqb pack.number number) hs ≤ 1) (sym packs)
-            (settled.apart number);
-        numbered = λ number. ap (λ found. get eqb found number) under.places
-            ∙ settled.numbered number
-            ∙ ap (λ hs. position (λ other. eqb number other) (map (λ (p : Held). p.number) hs))
-            (sym packs);
+        rising = subst (λ (hs : List Held). IsRising (numbers_held hs)) (sym packs) settled.rising;
         chained = chained_as _ _ _ _ _ _ under.reaches
             (ap (λ hs. homes_of (map (seen (faces now.groups.items)) hs)) packs
             ∙ homes-keys (faces before.groups.items)
             (faces now.groups.items) key before.packs.items)
-            (ap befores_of packs) settled.chained;
+            (ap links_of packs) settled.chained;
       };
       tallied = rw (under.piles, packs) kept.tallied;
       room = record {
         batches = omega (arith, room.batches, under.batches_long, under.batches_room, under.spare);
         groups = omega (arith, room.groups, under.groups_long, under.groups_room, under.spare);
         packs = omega (arith, room.packs, packs_long, packs_room, under.spare);
-        places = omega (arith, room.places, free, under.spare);
         nodes = omega (arith, room.nodes, outs, nodes_long, under.spare);
         back = omega (arith, room.back, ins, nodes_long, nodes_room);
         order_nodes = omega (arith, room.order_nodes, order_long, under.spare);

@@ -15,6 +15,9 @@ pub mod Underway
 pub mod WholeCorrection
 pub mod CorrectedSums
 pub mod ChainLemmas
+pub mod ChainSteps
+pub mod Pages
+pub mod Chained
 pub mod Homes
 pub mod PileTallies
 pub mod NumberPlaces

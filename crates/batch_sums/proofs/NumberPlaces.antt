@@ -1,14 +1,23 @@
 -- The pack of a number, by the place at which the number stands.
-use Rattle.std.proofs.Common.{◌≡◌, ℕ, ◌+◌, ◌<◌, ◌≤◌, Bool, true, false, cond, not, ◌||◌, eqb, ltb, inl, inr, ◌⊎◌, List, [], ◌∷◌, ◌++◌, length, map, Option, None, Some, is_some, refl, ap, sym, subst, ◌∙◌, arith, true≢false, length-append}
-use Rattle.std.specs.List.{find, list_any, position, position_or_len, slice_get}
+use Rattle.std.proofs.Common.{◌≡◌, ℕ, zero, suc, ◌+◌, ◌<◌, ◌≤◌, Bool, true, false, cond, not, ◌||◌, eqb, ltb, inl, inr, List, [], ◌∷◌, ◌++◌, length, map, get_or, None, Some, is_some, Result, Ok, Err, refl, ap, sym, subst, ◌∙◌, arith, true≢false, length-append}
+use Rattle.std.specs.List.{All, count_by, find, list_any, position, position_or_len, slice_get}
+use Rattle.std.specs.List.Sorted.{IsSearchInRange, IsBinarySearchResult, IsNonDecreasingBy}
+use Rattle.std.specs.Ordering.{nat_cmp, ordering_index}
+use Rattle.std.specs.Result.{result_ok}
 use Rattle.std.specs.Option.{option_and_then}
 use Rattle.std.proofs.lemmas.Bool.{cases_eq, cases_lt, eq-eqb, ne_eqb, ltb-false, lt-ltb, le-ltb}
-use Rattle.std.proofs.lemmas.List.{length-map}
-use Rattle.std.proofs.lemmas.List.Folds.{find_at, position_or_len_push}
+use Rattle.std.proofs.lemmas.Bool.Decides.{nat_tests}
+use Rattle.std.proofs.lemmas.Cmp.{ranked}
+use Rattle.std.proofs.lemmas.List.{length-map, get_or-map, get_or_append_left, get_or_at, get_or_default}
+use Rattle.std.proofs.lemmas.List.Folds.{find_at, list_any_none}
+use Rattle.std.proofs.lemmas.List.Sorted.{IsNonDecreasingBy-from_default}
+use Rattle.std.proofs.lemmas.List.Sums.{sum_by-cons}
 use Rattle.std.proofs.lemmas.Option.{slice_get_past}
 use Rattle.batch_sums.specs.declared.types.Held.{Held}
 use Rattle.pack_groups.specs.Groups.{Face}
-use Rattle.batch_sums.specs.Kept.{seen}
+use Rattle.pack_judge.specs.declared.types.Pile.TheVariants.{Passed}
+use Rattle.batch_sums.specs.Kept.{seen, IsRising}
+use Rattle.batch_sums.specs.Invariant.{numbers_held}
 
 module _ (some : List Face) (number : ℕ) where
   eqb-turned : (other : ℕ) → eqb other number ≡ eqb number other
@@ -79,69 +88,158 @@ absent_is number numbers none =
     ap (λ b. cond b (Some (position_or_len test numbers)) None)
     (le-ltb (position_or_len test numbers) (length numbers) (omega (arith, at)))
 
--- a number that is put behind stands there, and the others stand where they stood
-pub place_behind : (number next : ℕ) (numbers : List ℕ)
-    → list_any (λ other. eqb next other) numbers ≡ false
-    → position (λ other. eqb number other) (numbers ++ next ∷ [])
-    ≡ cond (eqb next number) (Some (length numbers)) (position (λ other. eqb number other) numbers)
-place_behind number next numbers none =
-    let test : ℕ → Bool = λ other. eqb number other in
-    let place = position_or_len test numbers in
-    let long : length (numbers ++ next ∷ []) ≡ length numbers + 1 = length-append numbers (next ∷ []) in
-    let of_place : (at : ℕ) → ℕ → Option ℕ = λ at most. cond (ltb at most) (Some at) None in
-    let unfolded : position test (numbers ++ next ∷ [])
-    ≡ of_place (cond (eqb place (length numbers)) (length numbers + cond (test next) 0 1) place)
-    (length numbers + 1) =
-    λ i. of_place (position_or_len_push test numbers next i) (long i) in
-    elim (cases_eq next number) [
-      | inl same ↦
-          let here = eq-eqb next number same in
-          let found : test next ≡ true = eq-eqb number next (sym same) in
-          let at : place ≡ length numbers =
-          subst (λ n. position_or_len (λ other. eqb n other) numbers ≡ length numbers) same
-          (absent_place next numbers none) in
-          unfolded
-          ∙ (λ i. of_place (cond (eq-eqb place (length numbers) at i)
-          (length numbers + cond (found i) 0 1) place) (length numbers + 1))
-          ∙ ap (λ n. of_place n (length numbers + 1)) (omega arith)
-          ∙ ap (λ b. cond b (Some (length numbers)) None)
-          (lt-ltb (length numbers) (length numbers + 1) (omega arith))
-          ∙ sym (ap (λ b. cond b (Some (length numbers)) (position test numbers)) here)
-      | inr differs ↦
-          let no : test next ≡ false = ne_eqb number next (λ same. differs (sym same)) in
-          unfolded ∙ ap (λ b. of_place (cond (eqb place (length numbers)) (length numbers + cond b 0 1)
-          place) (length numbers + 1)) no
-          ∙ elsewhere place (length numbers)
-          ∙ sym (ap (λ b. cond b (Some (length numbers)) (position test numbers))
-          (ne_eqb next number differs))
+-- rising numbers
+pub rising_push : (numbers : List ℕ) (next : ℕ) → IsRising numbers
+    → All (λ number. number < next) numbers → IsRising (numbers ++ next ∷ [])
+rising_push numbers next rising below place other less within =
+    let long = length-append numbers (next ∷ []) in
+    let first : place < length numbers = omega (arith, less, within, long) in
+    let stays = get_or_append_left numbers (next ∷ []) 0 place first in
+    elim (cases_lt other (length numbers)) [
+      | inl before ↦
+          omega (
+            arith,
+            stays,
+            get_or_append_left numbers (next ∷ []) 0 other before,
+            rising place other less before,
+          )
+      | inr last ↦
+          let same : length numbers ≡ other = omega (arith, within, long, last) in
+          omega (
+            arith,
+            stays,
+            get_or_at numbers next [] 0 other same,
+            below place 0 first,
+          )
     ]
-  where
-    elsewhere : (place most : ℕ)
-        → cond (ltb (cond (eqb place most) (most + 1) place) (most + 1))
-        (Some (cond (eqb place most) (most + 1) place)) None
-        ≡ cond (ltb place most) (Some place) None
-    elsewhere place most =
-        elim (cases_eq place most) [
-          | inl same ↦
-              ap (λ b. cond (ltb (cond b (most + 1) place) (most + 1))
-              (Some (cond b (most + 1) place)) None) (eq-eqb place most same)
-              ∙ ap (λ b. cond b (Some (most + 1)) None)
-              (le-ltb (most + 1) (most + 1) (omega arith))
-              ∙ sym (ap (λ b. cond b (Some place) None)
-              (le-ltb place most (omega (arith, same))))
-          | inr differs ↦
-              ap (λ b. cond (ltb (cond b (most + 1) place) (most + 1))
-              (Some (cond b (most + 1) place)) None) (ne_eqb place most differs)
-              ∙ ap (λ b. cond b (Some place) None) (by (cases_lt place most) differs)
-        ]
-      where
-        by : (place < most) ⊎ (most ≤ place) → (place ≡ most → ⊥) → ltb place (most + 1) ≡ ltb place most
-        by (inl less) differs = lt-ltb place (most + 1) (omega (arith, less))
-            ∙ sym (lt-ltb place most less)
-        by (inr more) differs = elim (cases_lt most place) [
-          | inl above ↦ le-ltb place (most + 1) (omega (arith, above)) ∙ sym (le-ltb place most more)
-          | inr below ↦ absurd (differs (omega (arith, more, below)))
-        ]
+
+-- none stands twice
+none_again : (number : ℕ) (held : List Held)
+    → ((place : ℕ) → place < length held → number < get_or (numbers_held held) place 0)
+    → count_by (λ p. eqb p.number number) held ≡ 0
+none_again number [] above = refl
+none_again number (h ∷ held) above =
+    let first = above 0 (omega arith) in
+    let no : cond (eqb h.number number) (suc zero) zero ≡ zero =
+    ap (λ b. cond b (suc zero) zero) (ne_eqb h.number number (λ same. omega (arith, first, same))) in
+    omega (
+      arith,
+      sum_by-cons (λ p. cond (eqb p.number number) 1 0) h held,
+      no,
+      none_again number held (λ place less. above (suc place) (omega (arith, less))),
+    )
+
+pub rising_apart : (number : ℕ) (held : List Held) → IsRising (numbers_held held)
+    → count_by (λ p. eqb p.number number) held ≤ 1
+rising_apart number [] rising = omega arith
+rising_apart number (h ∷ held) rising =
+    let cons = sum_by-cons (λ (p : Held). cond (eqb p.number number) 1 0) h held in
+    elim (cases_eq h.number number) [
+      | inl same ↦
+          let one : cond (eqb h.number number) (suc zero) zero ≡ suc zero =
+          ap (λ b. cond b (suc zero) zero) (eq-eqb h.number number same) in
+          let rest = none_again number held (λ place less.
+          subst (λ n. n < get_or (numbers_held held) place 0) same
+          (rising 0 (suc place) (omega arith)
+          (omega (arith, less, length-map held (λ (p : Held). p.number))))) in
+          omega (arith, cons, one, rest)
+      | inr differs ↦
+          let no : cond (eqb h.number number) (suc zero) zero ≡ zero =
+          ap (λ b. cond b (suc zero) zero) (ne_eqb h.number number differs) in
+          let rest = rising_apart number held (λ place other less within.
+          rising (suc place) (suc other) (omega (arith, less)) (omega (arith, within))) in
+          omega (arith, cons, no, rest)
+    ]
+
+-- the first place of a number
+first_place : (number : ℕ) (numbers : List ℕ) (place : ℕ) → place < length numbers
+    → get_or numbers place 0 ≡ number
+    → ((other : ℕ) → other < place → get_or numbers other 0 ≡ number → ⊥)
+    → position_or_len (λ other. eqb number other) numbers ≡ place
+first_place number [] place within is apart = absurd (omega (arith, within))
+first_place number (first ∷ numbers) zero within is apart =
+    ap (λ b. cond (not b) (1 + position_or_len (λ other. eqb number other) numbers) 0)
+    (eq-eqb number first (sym is))
+first_place number (first ∷ numbers) (suc place) within is apart =
+    let later = position_or_len (λ other. eqb number other) numbers in
+    let rest = first_place number numbers place (omega (arith, within)) is
+    (λ other less. apart (suc other) (omega (arith, less))) in
+    let next : later + 1 ≡ suc place = omega (arith, rest) in
+    ap (λ b. cond (not b) (1 + later) 0)
+    (ne_eqb number first (λ same. apart 0 (omega arith) (sym same)))
+    ∙ (let turned : 1 + later ≡ suc place = omega (arith, rest) in turned)
+
+-- what a search by halves finds among packs with rising numbers
+module _ (held : List Held) (rising : IsRising (numbers_held held)) (number : ℕ) where
+  some : Held
+  some = record {
+    number = 0;
+    group = 0;
+    links = record { before = 0; skip = 0; rank = 0 };
+    gross = 0;
+    pile = Passed;
+  }
+
+  read : (place : ℕ) → place < length held
+      → get_or (numbers_held held) place 0 ≡ (get_or held place some).number
+  read place within = get_or-map (λ (p : Held). p.number) held place some 0 within
+
+  long : length (numbers_held held) ≡ length held
+  long = length-map held (λ (p : Held). p.number)
+
+  answers_rise : IsNonDecreasingBy (λ (h : Held). ordering_index (nat_cmp h.number number)) held
+  answers_rise = IsNonDecreasingBy-from_default
+      (λ (h : Held). ordering_index (nat_cmp h.number number)) held some
+      (λ i j less within.
+      let rise : (get_or held i some).number ≤ (get_or held j some).number =
+      elim (cases_lt i j) [
+        | inl before ↦
+            omega (
+              arith,
+              rising i j before (omega (arith, within, long)),
+              read i (omega (arith, less, within)),
+              read j within,
+            )
+        | inr not_before ↦
+            let same : i ≡ j = omega (arith, less, not_before) in
+            subst (λ n. (get_or held i some).number ≤ (get_or held n some).number) same
+            (omega arith)
+      ] in
+      higher (get_or held i some).number (get_or held j some).number rise)
+    where
+      higher : (a b : ℕ) → a ≤ b
+          → ordering_index (nat_cmp a number) ≤ ordering_index (nat_cmp b number)
+      higher a b less = grind (arith, nat_tests)
+
+  pub place_found : (found : Result ℕ ℕ) → IsSearchInRange found (length held)
+      → IsBinarySearchResult (λ (h : Held). nat_cmp h.number number) held found
+      → result_ok found ≡ position (λ other. eqb number other) (numbers_held held)
+  place_found (Ok place) within equal =
+      let at : get_or (numbers_held held) place 0 ≡ number =
+      read place within ∙ ranked _ number _ (sym (equal some)) in
+      let inside : place < length (numbers_held held) = omega (arith, within, long) in
+      let first = first_place number (numbers_held held) place inside at
+      (λ other less same. omega (arith, rising other place less inside, at, same)) in
+      sym ((λ i. cond (ltb (first i) (length (numbers_held held))) (Some (first i)) None)
+      ∙ ap (λ b. cond b (Some place) None) (lt-ltb place (length (numbers_held held)) inside))
+  place_found (Err place) within parted =
+      sym (absent_is number (numbers_held held) (list_any_none (λ other. eqb number other)
+      (numbers_held held) (λ other d inside. ne_eqb number (get_or (numbers_held held) other d)
+      (λ same. absent other (omega (arith, inside, long))
+      (sym (get_or_default (numbers_held held) other d 0 inside) ∙ sym same)))))
+    where
+      absent : (other : ℕ) → other < length held → get_or (numbers_held held) other 0 ≡ number → ⊥
+      absent other inside same =
+          elim (cases_lt other place) [
+            | inl before ↦
+                let less : (get_or held other some).number < number =
+                ranked _ number _ (sym ((parted answers_rise).0 other some (omega arith) before)) in
+                omega (arith, less, read other inside, same)
+            | inr behind ↦
+                let more : number < (get_or held other some).number =
+                ranked _ number _ (sym ((parted answers_rise).1 other some behind inside)) in
+                omega (arith, more, read other inside, same)
+          ]
 
 present_place : (number : ℕ) (numbers : List ℕ)
     → list_any (λ other. eqb number other) numbers ≡ true

@@ -1,11 +1,11 @@
 -- The group of a new pack is ready: it was there with this tare, or it was opened.
-use Rattle.std.proofs.Common.{◌≡◌, ℕ, zero, suc, ◌+◌, ◌<◌, ◌≤◌, Bool, true, false, cond, ◌||◌, eqb, ◌⊎◌, inl, inr, List, [], ◌∷◌, ◌++◌, length, map, get_or, set, Option, Some, option_map, refl, ap, sym, subst, ◌∙◌, arith, length-append, length-set}
+use Rattle.std.proofs.Common.{◌≡◌, ℕ, zero, suc, ◌+◌, ◌<◌, ◌≤◌, Bool, cond, eqb, ◌⊎◌, inl, inr, List, [], ◌∷◌, ◌++◌, length, map, get_or, set, Some, refl, ap, sym, subst, ◌∙◌, arith, length-append, length-set}
 use Rattle.std.specs.Prelude.{pos, ◌≤ℤ◌}
-use Rattle.std.specs.List.{count_by, All, list_any, position, slice_get}
+use Rattle.std.specs.List.{count_by, All, slice_get}
 use Rattle.std.proofs.lemmas.Bool.{cases_lt, cases_eq, eq-eqb, ne_eqb}
 use Rattle.std.proofs.lemmas.List.{length-map, map-append, map-set, get_or-map}
 use Rattle.std.proofs.lemmas.List.Sums.{sum_by-cons, sum_by_push}
-use Rattle.std.proofs.lemmas.Option.{slice_get_within, slice_get_read, slice_get-map, get_or_from_slice_get, same_Some}
+use Rattle.std.proofs.lemmas.Option.{slice_get_within, slice_get_read, same_Some}
 use Rattle.std.proofs.lemmas.List.Elements.{All-push}
 use Rattle.hall_limits.specs.declared.TheConstants.{MAX_GROSS, MAX_TARE}
 use Rattle.balanced_tree.specs.Trees.{items, IsBalanced}
@@ -18,13 +18,13 @@ use Rattle.pack_groups.specs.Population.{is_counted}
 use Rattle.batch_sums.specs.declared.types.Pack.{Pack}
 use Rattle.pack_groups.specs.Rising.{HasMoreIf}
 use Rattle.pack_groups.specs.Running.{IsEntered, HasRoom}
-use Rattle.batch_sums.specs.Invariant.{IsSettled, reaches_of, homes_of, befores_of}
+use Rattle.batch_sums.specs.Invariant.{IsSettled, reaches_of, homes_of, links_of, numbers_held}
 use Rattle.pack_groups.specs.Groups.{Face, face_of, faces, nth_face, IsJudged}
 use Rattle.pack_groups.specs.Index.{IsIndex, IsOpened, HasKey}
-use Rattle.batch_sums.specs.Kept.{Sound, IsGroup, IsChained, seen}
+use Rattle.batch_sums.specs.Kept.{Sound, IsGroup, IsChained, IsLinked, IsRising, seen}
 use Rattle.pack_judge.specs.declared.types.Pile.{Pile}
 use Rattle.batch_sums.proofs.ChainLemmas.{chained_put}
-use Rattle.batch_sums.proofs.NumberPlaces.{place_behind}
+use Rattle.batch_sums.proofs.NumberPlaces.{rising_push}
 use Rattle.batch_sums.proofs.Homes.{chained_as}
 use Rattle.batch_sums.proofs.SoundLemmas.{face-found, faces-set}
 use Rattle.batch_sums.proofs.OnePackMore.{joins_push}
@@ -80,7 +80,7 @@ module _ (batches : List Batch) (groups : List Group) (held : List Held)
       (record {
         number = 0;
         group = 0;
-        before = 0;
+        links = record { before = 0; skip = 0; rank = 0 };
         gross = 0;
         pile =
             Rattle.pack_judge.specs.declared.types.Pile.TheVariants.Passed;
@@ -92,7 +92,7 @@ module _ (batches : List Batch) (groups : List Group) (held : List Held)
       (record {
         number = 0;
         group = 0;
-        before = 0;
+        links = record { before = 0; skip = 0; rank = 0 };
         gross = 0;
         pile =
             Rattle.pack_judge.specs.declared.types.Pile.TheVariants.Passed;
@@ -147,32 +147,6 @@ module _ (batches : List Batch) (groups : List Group) (held : List Held)
         long = omega (arith, more);
       }
 
--- a number that isn't among the packs stands beside none of them
-pub none_numbered : (number : ℕ) (held : List Held)
-    → list_any (λ other. eqb number other) (map (λ p. p.number) held) ≡ false
-    → count_by (λ p. eqb p.number number) held ≡ 0
-none_numbered number [] none = refl
-none_numbered number (h ∷ held) none =
-    elim (cases_eq number h.number) [
-      | inl same ↦
-          absurd (Rattle.std.proofs.Common.true≢false
-          (sym (ap (λ b. b || list_any (λ other. eqb number other) (map (λ p. p.number) held))
-          (eq-eqb number h.number same)) ∙ none))
-      | inr differs ↦
-          let rest = sym
-          (ap (λ b. b || list_any (λ other. eqb number other) (map (λ p. p.number) held))
-          (ne_eqb number h.number differs)) ∙ none in
-          let no : cond (eqb h.number number) (suc zero) zero ≡ zero =
-          ap (λ b. cond b (suc zero) zero)
-          (ne_eqb h.number number (λ same. differs (sym same))) in
-          omega (
-            arith,
-            sum_by-cons (λ p. cond (eqb p.number number) 1 0) h held,
-            no,
-            none_numbered number held rest,
-          )
-    ]
-
 module _ (batches : List Batch) (groups : List Group) (held : List Held) (after : List Group)
     (place : ℕ) (key : Key) (tare : ℕ) (ready : IsReady batches groups held after place key tare)
     (group : Group) (read : group ≡ get_or after place group) (batch : Batch)
@@ -223,20 +197,14 @@ module _ (batches : List Batch) (groups : List Group) (held : List Held) (after 
     pub faces_put : faces (set after place next) ≡ faces after
     faces_put = faces-set after place group next at_here face_next
 
-    pub settled_put : (order : Tree ℕ) (places old : ℕ → Option ℕ) → IsBalanced order
+    pub settled_put : (order : Tree ℕ) → IsBalanced order
         → IsIndex (faces after) (items order) → length groups ≤ length held
-        → ((number : ℕ) → old number
-        ≡ position (λ other. eqb number other) (map (λ p. p.number) held))
-        → ((number : ℕ) → count_by (λ p. eqb p.number number) held ≤ 1)
-        → list_any (λ other. eqb h.number other) (map (λ p. p.number) held) ≡ false
-        → ((number : ℕ) → places number
-        ≡ cond (eqb h.number number) (Some (length held)) (old number))
+        → IsRising (numbers_held held) → All (λ number. number < h.number) (numbers_held held)
         → IsChained (reaches_of (set batches key.batch new))
         (homes_of (map (seen (faces (set after place next))) (held ++ h ∷ [])))
-        (befores_of (held ++ h ∷ [])) → IsSettled (set batches key.batch new)
-        (set after place next) order (held ++ h ∷ []) places
-    settled_put order places old balanced index small numbered apart none entered chained =
-        let absent = none_numbered h.number held none in
+        (links_of (held ++ h ∷ [])) → IsSettled (set batches key.batch new)
+        (set after place next) order (held ++ h ∷ [])
+    settled_put order balanced index small rising below chained =
         let counted : (test : Held → Bool)
         → count_by test (held ++ h ∷ []) ≡ count_by test held + cond (test h) 1 0 =
         λ test. sum_by_push (λ p. cond (test p) 1 0) held h in
@@ -259,30 +227,8 @@ module _ (batches : List Batch) (groups : List Group) (held : List Held) (after 
             length-set after place next,
             length-append held (h ∷ []),
           );
-          apart = λ number.
-              elim (cases_eq h.number number) [
-                | inl same ↦
-                    let one : cond (eqb h.number number) (suc zero) zero ≡ suc zero =
-                    ap (λ b. cond b (suc zero) zero) (eq-eqb h.number number same) in
-                    omega (
-                      arith,
-                      one,
-                      counted (λ p. eqb p.number number),
-                      subst (λ n. count_by (λ p. eqb p.number n) held ≡ 0) same absent,
-                    )
-                | inr differs ↦
-                    let no : cond (eqb h.number number) (suc zero) zero ≡ zero =
-                    ap (λ b. cond b (suc zero) zero) (ne_eqb h.number number differs) in
-                    omega (arith, no, counted (λ p. eqb p.number number), apart number)
-              ];
-          numbered = λ number. entered number
-              ∙ ap (λ found. cond (eqb h.number number) (Some (length held)) found) (numbered number)
-              ∙ ap (λ n. cond (eqb h.number number) (Some n)
-              (position (λ other. eqb number other) (map (λ (p : Held). p.number) held)))
-              (sym (length-map held (λ (p : Held). p.number)))
-              ∙ sym (ap (λ ns. position (λ other. eqb number other) ns)
-              (map-append (λ (p : Held). p.number) held (h ∷ []))
-              ∙ place_behind number h.number (map (λ (p : Held). p.number) held) none);
+          rising = subst IsRising (sym (map-append (λ (p : Held). p.number) held (h ∷ [])))
+              (rising_push (numbers_held held) h.number rising below);
           chained = chained;
         }
 
@@ -311,25 +257,25 @@ module _ (batches : List Batch) (groups : List Group) (held : List Held) (after 
           pile = h.pile;
         } ∷ [])
 
-    pub chained_with : (read : Batch) → slice_get batches key.batch ≡ Some read
-        → h.before ≡ read.reach → new.reach ≡ length held + 1
+    pub chained_with : new.reach ≡ length held + 1
+        → IsLinked key.batch (homes_of (map (seen (faces groups)) held)) h.links
         → IsChained (reaches_of batches) (homes_of (map (seen (faces groups)) held))
-        (befores_of held)
+        (links_of held)
         → IsChained (reaches_of (set batches key.batch new))
         (homes_of (map (seen (faces (set after place next))) (held ++ h ∷ [])))
-        (befores_of (held ++ h ∷ []))
-    chained_with read is before reach chained =
+        (links_of (held ++ h ∷ []))
+    chained_with reach linked chained =
         let packs = map (seen (faces groups)) held in
         let there : key.batch < length (reaches_of batches) =
         omega (
           arith,
-          slice_get_within batches key.batch read is,
+          slice_get_within batches key.batch batch home,
           length-map batches (λ (b : Batch). b.reach),
         ) in
-        let long : length (befores_of held) ≡ length (homes_of packs) =
+        let long : length (links_of held) ≡ length (homes_of packs) =
         omega (
           arith,
-          length-map held (λ (p : Held). p.before),
+          length-map held (λ (p : Held). p.links),
           length-map packs (λ (p : Pack). p.batch),
           length-map held (seen (faces groups)),
         ) in
@@ -340,17 +286,12 @@ module _ (batches : List Batch) (groups : List Group) (held : List Held) (after 
           length-map packs (λ (p : Pack). p.batch),
           length-map held (seen (faces groups)),
         ) in
-        let old : get_or (reaches_of batches) key.batch 0 ≡ h.before =
-        get_or_from_slice_get (reaches_of batches) key.batch read.reach 0
-        (slice_get-map (λ (b : Batch). b.reach) batches key.batch
-        ∙ ap (option_map (λ (b : Batch). b.reach)) is) ∙ sym before in
         chained_as _ _ _ _ _ _ (map-set (λ (b : Batch). b.reach) batches key.batch new
         ∙ ap (λ n. set (reaches_of batches) key.batch n) (sym count))
         (ap homes_of packs_put ∙ map-append (λ (p : Pack). p.batch) packs _)
-        (map-append (λ (p : Held). p.before) held (h ∷ [])
-        ∙ ap (λ n. befores_of held ++ n ∷ []) (sym old))
-        (chained_put (reaches_of batches) (homes_of packs)
-        (befores_of held) chained key.batch there long)
+        (map-append (λ (p : Held). p.links) held (h ∷ []))
+        (chained_put (reaches_of batches) (homes_of packs) (links_of held) chained key.batch there
+        long h.links linked)
 
 -- a batch that a pack comes into, whatever it knew of how far its packs reach
 pub entered_from : (before : Batch) (reach : ℕ) (after : Batch) (pile : Pile) (mass tare : ℕ)

@@ -44,7 +44,6 @@ pub record IsUnderway (before now : Inside) (visited : List ℕ) (tare start ste
   pub groups_room : vec_capacity now.groups ≡ vec_capacity before.groups
   pub order : now.order ≡ before.order
   pub packs : now.packs ≡ before.packs
-  pub places : now.places ≡ before.places
   pub gross_nodes : now.gross_nodes ≡ before.gross_nodes
   pub order_nodes : now.order_nodes ≡ before.order_nodes
   pub spare : now.spare ≡ before.spare
@@ -212,7 +211,6 @@ module _ (before now : Inside) (visited : List ℕ) (tare start steps more : ℕ
             groups_room = under.groups_room;
             order = under.order;
             packs = under.packs;
-            places = under.places;
             gross_nodes = under.gross_nodes;
             order_nodes = under.order_nodes;
             spare = under.spare;

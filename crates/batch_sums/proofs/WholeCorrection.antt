@@ -270,7 +270,7 @@ module _ (batches : List Batch) (groups : List Group) (held : List Held)
   no_pack = record {
     number = 0;
     group = 0;
-    before = 0;
+    links = record { before = 0; skip = 0; rank = 0 };
     gross = 0;
     pile =
         Rattle.pack_judge.specs.declared.types.Pile.TheVariants.Passed;

@@ -1,5 +1,5 @@
 -- What the asking calls tell of the list of packs.
-use Rattle.std.specs.Prelude.{◌≡◌, ℕ, ◌≤◌, Bool, false, List, [], ◌∷◌, ◌++◌, map, filter, Contains}
+use Rattle.std.specs.Prelude.{◌≡◌, ℕ, ◌≤◌, Bool, false, List, [], ◌∷◌, ◌++◌, map, filter, take, nat_lt, Contains}
 use Rattle.std.specs.Prelude.{Option, Some, None, unwrap_or}
 use Rattle.std.specs.List.{slice_get, All}
 use Rattle.pack_judge.specs.declared.types.Pile.TheVariants.{Passed, Rejected, Sampled, Voided}
@@ -22,6 +22,11 @@ piles_of packs =
 -- the numbers of some packs
 abbrev pub numbers_of : List Pack → List ℕ
 numbers_of packs = map (λ pack. pack.number) packs
+
+-- the numbers of some packs above one, at most so many of them
+abbrev pub numbers_after : ℕ → ℕ → List Pack → List ℕ
+numbers_after after most packs =
+    take most (filter (λ number. nat_lt after number) (numbers_of packs))
 
 -- the packs of a product on the days of a span
 abbrev pub concerned_in : Sums → ℕ → Span → List Pack

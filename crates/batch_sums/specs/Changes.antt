@@ -1,5 +1,5 @@
 -- What the three changing calls make of the list of packs.
-use Rattle.std.specs.Prelude.{◌≡◌, ℕ, ℤ, pos, ◌+◌, ◌≤◌, ◌≤ℤ◌, Bool, false, ◌&&◌, ◌==◌, List, [], ◌∷◌, map, filter, count_by, if◌then◌else◌}
+use Rattle.std.specs.Prelude.{◌≡◌, ℕ, ℤ, pos, ◌+◌, ◌<◌, ◌≤◌, ◌≤ℤ◌, Bool, false, ◌&&◌, ◌==◌, List, [], ◌∷◌, map, filter, count_by, if◌then◌else◌}
 use Rattle.std.specs.Ordering.{int_eq}
 use Rattle.std.specs.List.{list_any, slice_get, All}
 use Rattle.std.specs.Option.{option_map_or}
@@ -19,6 +19,10 @@ IsUpTo limit number = (pos 0 ≤ℤ number) × (number ≤ℤ limit)
 abbrev pub IsTareOf : ℕ → ℤ → ℤ → List Pack → Type 0
 IsTareOf batch day tare packs =
     All (λ pack. pack.batch ≡ batch → pack.day ≡ day → pack.tare ≡ tare) packs
+
+-- a number above those of all packs that were added
+abbrev pub IsAbove : List Pack → ℕ → Type 0
+IsAbove packs number = All (λ pack. pack.number < number) packs
 
 -- whether a pack of this number was added
 abbrev pub is_added : List Pack → ℕ → Bool

@@ -1,19 +1,19 @@
 -- What holds of the fields of the sums.
-use Rattle.std.specs.Prelude.{◌^◌, ◌≡◌, ℕ, ◌+◌, ◌<◌, ◌≤◌, not, ◌==◌, nat_eq, List, length, map, position, count_by, Option, vec_len, vec_capacity}
+use Rattle.std.specs.Prelude.{◌^◌, ◌≡◌, ℕ, ◌+◌, ◌<◌, ◌≤◌, not, ◌==◌, List, length, map, count_by, vec_len, vec_capacity}
 use Rattle.std.specs.declared.vec.Vec.{Vec}
 use Rattle.std.specs.declared.alloc.Global.{Global}
-use Rattle.std.specs.HashMap.{get, spare}
 use Rattle.balanced_tree.specs.Trees.{items, IsBalanced}
 use Rattle.batch_sums.specs.declared.sums.BatchSums.TheInside.{Inside}
 use Rattle.balanced_tree.specs.declared.tree.Tree.{Tree}
 use Rattle.pack_groups.specs.declared.batch.Batch.{Batch}
 use Rattle.pack_groups.specs.declared.group.Group.{Group}
 use Rattle.batch_sums.specs.declared.types.Held.{Held}
+use Rattle.batch_sums.specs.declared.types.Links.{Links}
 use Rattle.batch_sums.specs.declared.types.Pack.{Pack}
-use Rattle.pack_groups.specs.Groups.{faces}
+use Rattle.pack_groups.specs.Groups.{Face, faces}
 use Rattle.pack_groups.specs.Population.{is_counted}
 use Rattle.pack_groups.specs.Index.{IsIndex}
-use Rattle.batch_sums.specs.Kept.{Sound, IsChained, IsTallied, seen}
+use Rattle.batch_sums.specs.Kept.{Sound, IsChained, IsRising, IsTallied, seen}
 
 -- how many packs count for a population, and how many don't
 abbrev pub inside : List Held → ℕ
@@ -30,9 +30,17 @@ reaches_of batches = map (λ batch. batch.reach) batches
 abbrev pub homes_of : List Pack → List ℕ
 homes_of packs = map (λ pack. pack.batch) packs
 
--- how far the packs before each in its batch reached
-abbrev pub befores_of : List Held → List ℕ
-befores_of held = map (λ pack. pack.before) held
+-- the batches that packs show
+abbrev pub homes_shown : List Face → List Held → List ℕ
+homes_shown some held = homes_of (map (seen some) held)
+
+-- how each pack is linked
+abbrev pub links_of : List Held → List Links
+links_of held = map (λ pack. pack.links) held
+
+-- the number of each pack
+abbrev pub numbers_held : List Held → List ℕ
+numbers_held held = map (λ pack. pack.number) held
 
 -- there is room for as many packs and batches more as are spare; a pack outside a population keeps
 -- a node for it, and each node that is in use has a place to come back to
@@ -40,7 +48,6 @@ pub record IsRoomy (held : List Held) (sums : Inside) : Type 0 where
   pub batches : vec_len sums.batches + sums.spare ≤ vec_capacity sums.batches
   pub groups : vec_len sums.groups + sums.spare ≤ vec_capacity sums.groups
   pub packs : vec_len sums.packs + sums.spare ≤ vec_capacity sums.packs
-  pub places : sums.spare ≤ spare sums.places
   pub nodes : outside held + sums.spare ≤ vec_len sums.gross_nodes
   pub back : vec_len sums.gross_nodes + inside held ≤ vec_capacity sums.gross_nodes
   pub order_nodes : sums.spare ≤ vec_len sums.order_nodes
@@ -49,21 +56,17 @@ pub record IsRoomy (held : List Held) (sums : Inside) : Type 0 where
 
 -- the lists fit together
 pub record IsSettled (batches : List Batch) (groups : List Group) (order : Tree ℕ)
-    (held : List Held) (places : ℕ → Option ℕ) : Type 0 where
+    (held : List Held) : Type 0 where
   pub sound : Sound batches groups held
   pub balanced : IsBalanced order
   pub index : IsIndex (faces groups) (items order)
   pub used : (place : ℕ) → place < length groups → 0 < count_by (λ pack. pack.group == place) held
   pub small : length groups ≤ length held
-  pub apart : (number : ℕ) → count_by (λ pack. pack.number == number) held ≤ 1
-  pub numbered : (number : ℕ) → places number
-      ≡ position (λ other. nat_eq number other) (map (λ pack. pack.number) held)
-  pub chained : IsChained (reaches_of batches) (homes_of (map (seen (faces groups)) held))
-      (befores_of held)
+  pub rising : IsRising (numbers_held held)
+  pub chained : IsChained (reaches_of batches) (homes_shown (faces groups) held) (links_of held)
 
 pub record IsKept (sums : Inside) : Type 0 where
-  pub settled : IsSettled sums.batches.items sums.groups.items sums.order
-      sums.packs.items (get nat_eq sums.places)
+  pub settled : IsSettled sums.batches.items sums.groups.items sums.order sums.packs.items
   pub room : IsRoomy sums.packs.items sums
   pub tallied : IsTallied sums.piles sums.packs.items
 

@@ -1,5 +1,5 @@
 -- What is kept of the packs, and what always holds of it.
-use Rattle.std.specs.Prelude.{◌^◌, ◌≡◌, ℕ, ℤ, pos, ◌+◌, ◌<◌, ◌≤ℤ◌, Bool, ◌&&◌, ◌==◌, List, [], ◌∷◌, ◌||◌, length, take, nat_lt, slice_index, count_by, Some, if◌then◌else◌}
+use Rattle.std.specs.Prelude.{◌^◌, ◌≡◌, ℕ, ℤ, pos, ◌+◌, ◌<◌, ◌≤◌, ◌≤ℤ◌, Bool, ◌&&◌, ◌==◌, List, [], ◌∷◌, ◌||◌, length, take, nat_lt, slice_index, slice_index_or, count_by, Some, if◌then◌else◌}
 use Rattle.std.specs.List.{All, sum_by, slice_get}
 use Rattle.hall_limits.specs.declared.TheConstants.{MAX_GROSS, MAX_TARE}
 use Rattle.pack_judge.specs.declared.types.Pile.{Pile}
@@ -7,6 +7,7 @@ use Rattle.pack_groups.specs.declared.batch.Batch.{Batch}
 use Rattle.pack_groups.specs.declared.batch.PileSums.{PileSums}
 use Rattle.pack_groups.specs.declared.group.Group.{Group}
 use Rattle.batch_sums.specs.declared.types.Held.{Held}
+use Rattle.batch_sums.specs.declared.types.Links.{Links}
 use Rattle.pack_groups.specs.Rising.{mass_of}
 use Rattle.pack_groups.specs.Population.{is_counted}
 use Rattle.batch_sums.specs.Totals.{Terms}
@@ -100,14 +101,40 @@ reach_of batch [] = 0
 reach_of batch (home ∷ homes) =
     if home == batch || nat_lt 0 (reach_of batch homes) then reach_of batch homes + 1 else 0
 
--- the packs of each batch are chained: the batch tells how far they reach, and each pack how far
--- those before it did
-pub record IsChained (reaches homes befores : List ℕ) : Type 0 where
+-- a reach among the batches that packs have: up to a last that is this one, or 0
+pub record IsReach (batch : ℕ) (homes : List ℕ) (reach : ℕ) : Type 0 where
+  pub within : reach ≤ length homes
+  pub reached : reach_of batch (take reach homes) ≡ reach
+
+-- how many of them are this one
+abbrev pub rank_of : ℕ → List ℕ → ℕ
+rank_of batch homes = count_by (λ home. home == batch) homes
+
+-- a pack of a batch is linked with those before it: it tells how far they reach, how far some of
+-- them do, and how many they are with it
+pub record IsLinked (batch : ℕ) (homes : List ℕ) (links : Links) : Type 0 where
+  pub before : links.before ≡ reach_of batch homes
+  pub skip : IsReach batch homes links.skip
+  pub rank : links.rank ≡ rank_of batch homes + 1
+
+-- so is each pack
+abbrev pub AreLinked : List ℕ → List Links → Type 0
+AreLinked homes links =
+    (place : ℕ) (other : Links) → place < length homes
+    → IsLinked (slice_index homes place) (take place homes) (slice_index_or links place other)
+
+-- the packs of each batch are chained: the batch tells how far they reach, and each pack is linked
+pub record IsChained (reaches homes : List ℕ) (links : List Links) : Type 0 where
   pub within : All (λ home. home < length reaches) homes
   pub newest : (batch : ℕ) → batch < length reaches
       → slice_index reaches batch ≡ reach_of batch homes
-  pub before : (place : ℕ) → place < length homes
-      → slice_index befores place ≡ reach_of (slice_index homes place) (take place homes)
+  pub linked : AreLinked homes links
+
+-- numbers that rise
+abbrev pub IsRising : List ℕ → Type 0
+IsRising numbers =
+    (place other : ℕ) → place < other → other < length numbers
+    → slice_index numbers place < slice_index numbers other
 
 -- batches, groups and packs fit together
 pub record Sound (batches : List Batch) (groups : List Group) (held : List Held) : Type 0 where

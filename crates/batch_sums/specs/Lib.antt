@@ -3,3 +3,4 @@ pub mod Kept
 pub mod Invariant
 pub mod Changes
 pub mod Asked
+pub mod Chains

@@ -3,6 +3,7 @@
 //! packs. All masses are whole milligrams.
 #![tactic(auto)]
 
+mod chain;
 mod pool;
 mod sums;
 mod types;

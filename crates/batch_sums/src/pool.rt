@@ -1,67 +1,39 @@
-ghost use Rattle.std.specs.Prelude.{◌≡◌, ℕ, ◌+◌, ◌^◌, ◌<◌, ◌≤◌, max, [], ◌∷◌, ◌++◌, cond, nat_eq, vec_len, vec_capacity, Some, OnOk};
-ghost use Rattle.std.specs.HashMap.{get, spare};
-ghost use Rattle.batch_sums.specs.Invariant.{HasGrown};
+ghost use Rattle.std.specs.Prelude.{◌≡◌, ℕ, ◌+◌, ◌^◌, ◌<◌, ◌≤◌, max, nat_eq, position, vec_len, vec_capacity, OnOk};
+ghost use Rattle.batch_sums.specs.Kept.{IsRising};
+ghost use Rattle.batch_sums.specs.Invariant.{HasGrown, numbers_held};
 
 use crate::types::{Held, NoMemory};
 use balanced_tree::Node;
 use pack_groups::{Batch, Gross, Group};
 use std::alloc::Global;
-use std::collections::HashMap;
 
 /// Makes room for so many batches, groups and packs more.
 pub fn reserve_places(
     batches: &mut Vec<Batch>,
     groups: &mut Vec<Group>,
     packs: &mut Vec<Held>,
-    places: &mut HashMap<u32, u32>,
     more: u32,
 ) -> Result<(), NoMemory>
     ensures batches { HasGrown batches.old batches.new }
     ensures groups { HasGrown groups.old groups.new }
     ensures packs { HasGrown packs.old packs.new }
-    ensures same { (number : ℕ) → get nat_eq places.new number ≡ get nat_eq places.old number }
-    ensures places { spare places.old ≤ spare places.new }
     ensures ok_batches { OnOk result (vec_len batches.new + more ≤ vec_capacity batches.new) }
     ensures ok_groups { OnOk result (vec_len groups.new + more ≤ vec_capacity groups.new) }
     ensures ok_packs { OnOk result (vec_len packs.new + more ≤ vec_capacity packs.new) }
-    ensures ok_places { OnOk result (more ≤ spare places.new) }
 {
     let more = more as usize;
     batches.reserve(more)?;
     groups.reserve(more)?;
     packs.reserve(more)?;
-    places.reserve(more)?;
     Ok(())
 }
 
-/// Puts a pack behind the others, and takes down its place. There is room for both.
-pub fn push_pack(packs: &mut Vec<Held>, places: &mut HashMap<u32, u32>, held: Held)
-    requires packs { vec_len packs.old < vec_capacity packs.old }
-    requires few { vec_len packs.old < 2 ^ 32 }
-    requires places { 0 < spare places.old }
-    ensures items { packs.new.items ≡ packs.old.items ++ held ∷ [] }
-    ensures len { vec_len packs.new ≡ vec_len packs.old + 1 }
-    ensures capacity { vec_capacity packs.new ≡ vec_capacity packs.old }
-    ensures places { (number : ℕ) → get nat_eq places.new number
-        ≡ cond (nat_eq held.number number) (Some (vec_len packs.old))
-        (get nat_eq places.old number) }
-    ensures spare { spare places.old ≤ spare places.new + 1 }
-{
-    let place = packs.len() as u32;
-    packs.push_reserved(held);
-    let Ok(_) = places.insert(held.number, place) else {
-        unreachable!()
-    };
-}
-
 /// The place of the pack of a number, where there is such a pack.
-pub fn place_of(places: &HashMap<u32, u32>, number: u32) -> Option<usize>
-    ensures index { result ≡ get nat_eq places.now number }
+pub fn place_of(packs: &[Held], number: u32) -> Option<usize>
+    ensures { IsRising (numbers_held packs.now)
+        → result ≡ position (λ other. nat_eq number other) (numbers_held packs.now) }
 {
-    match places.get(&number) {
-        Some(place) => Some(*place as usize),
-        None => None,
-    }
+    packs.binary_search_by_key(&number, |held| held.number).ok()
 }
 
 /// Makes the spare nodes for grosses at least `grosses`, with places for those of so many packs to

@@ -2,10 +2,11 @@ ghost use Rattle.std.specs.Prelude.{◌≡◌, ℕ, List, pos, find, map, ◌==�
 ghost use Rattle.batch_sums.specs.Kept.{counted_number};
 ghost use Rattle.pack_groups.specs.Population.{is_counted};
 ghost use Rattle.batch_sums.specs.Totals.{population, left_out, of_batch, kept_totals, kept_limits};
-ghost use Rattle.batch_sums.specs.Asked.{numbers_of, piles_of, concerned_in, chosen_batches, IsLeast, IsLeastWith};
-ghost use Rattle.batch_sums.specs.Changes.{is_added, moved, corrected, concerned, group_count, IsUpTo, IsTareOf, HasFewPerGroup};
+ghost use Rattle.batch_sums.specs.Asked.{numbers_of, numbers_after, piles_of, concerned_in, chosen_batches, IsLeast, IsLeastWith};
+ghost use Rattle.batch_sums.specs.Changes.{IsAbove, is_added, moved, corrected, concerned, group_count, IsUpTo, IsTareOf, HasFewPerGroup};
 
-use crate::pool::{place_of, push_pack, reserve_nodes, reserve_places};
+use crate::chain::{links_behind, numbers_behind};
+use crate::pool::{place_of, reserve_nodes, reserve_places};
 use crate::types::{Held, NoMemory, Pack};
 use annex_tables::Limits;
 use balanced_tree::{Node, Tree};
@@ -16,7 +17,6 @@ use pack_groups::{
 };
 use pack_judge::{Pile, Span};
 use std::alloc::{AllocError, Global};
-use std::collections::HashMap;
 use std::marker::Model;
 use std::sync::ledger::Ledger;
 
@@ -26,9 +26,8 @@ pub struct BatchSums {
     groups: Vec<Group>,
     // The places of the groups in the order of their keys.
     order: Tree<u32>,
-    // The packs in the order in which they were added, and the place of each by its number.
+    // The packs in the order in which they were added, by their rising numbers.
     packs: Vec<Held>,
-    places: HashMap<u32, u32>,
     // The sums of the packs of all batches.
     piles: PileSums,
     // Spare nodes: one for each pack that doesn't count for a population, and for each place that
@@ -47,7 +46,6 @@ impl Drop for BatchSums {
             groups: _,
             order: _,
             packs: _,
-            places: _,
             piles: _,
             gross_nodes: _,
             order_nodes: _,
@@ -87,7 +85,6 @@ impl BatchSums {
             groups: Vec::new(alloc),
             order: Tree::Leaf,
             packs: Vec::new(alloc),
-            places: HashMap::new(alloc),
             piles: PileSums::new(),
             gross_nodes: Vec::new(alloc),
             order_nodes: Vec::new(alloc),
@@ -136,13 +133,7 @@ impl BatchSums {
         if self.batches.len() > most as usize || self.packs.len() > most as usize {
             return Err(AllocError);
         }
-        reserve_places(
-            &mut self.batches,
-            &mut self.groups,
-            &mut self.packs,
-            &mut self.places,
-            more,
-        )?;
+        reserve_places(&mut self.batches, &mut self.groups, &mut self.packs, more)?;
         reserve_nodes(
             &mut self.gross_nodes,
             &mut self.order_nodes,
@@ -155,7 +146,8 @@ impl BatchSums {
     }
 
     /// Adds a pack of a batch, with its number, its day since 1970-01-01, its gross and the tare of
-    /// its batch and day in mg, and the pile that it lies in.
+    /// its batch and day in mg, and the pile that it lies in. The number is above those of all packs
+    /// before.
     ///
     /// It is refused only for want of memory, and never while a place is reserved.
     pub fn add(
@@ -168,7 +160,7 @@ impl BatchSums {
         pile: Pile,
     ) -> Result<(), NoMemory>
         requires batch { batch < length self.old.batches }
-        requires new { is_added self.old.packs pack ≡ false }
+        requires new { IsAbove self.old.packs pack }
         requires day { IsUpTo MAX_DAY day }
         requires gross { IsUpTo MAX_GROSS gross }
         requires tare { IsUpTo MAX_TARE tare }
@@ -196,7 +188,7 @@ impl BatchSums {
     fn put(&mut self, batch: u32, pack: u32, day: u32, gross: u32, tare: u32, pile: Pile)
         requires room { 0 < self.old.spare }
         requires batch { batch < length self.old.batches }
-        requires new { is_added self.old.packs pack ≡ false }
+        requires new { IsAbove self.old.packs pack }
         requires day { pos day ≤ℤ MAX_DAY }
         requires gross { pos gross ≤ℤ MAX_GROSS }
         requires tare { pos tare ≤ℤ MAX_TARE }
@@ -214,6 +206,7 @@ impl BatchSums {
         ensures spare { self.new.spare + 1 ≡ self.old.spare }
     {
         let home = self.batches[batch as usize];
+        let links = links_behind(&self.packs, home.reach);
         let key = Key {
             product: home.product,
             day,
@@ -221,14 +214,13 @@ impl BatchSums {
         };
         let (groups, nodes) = (&mut self.groups, &mut self.order_nodes);
         let group = find_or_open(groups, &mut self.order, nodes, key, tare);
-        let held = Held {
+        self.packs.push_reserved(Held {
             number: pack,
             group,
-            before: home.reach,
+            links,
             gross,
             pile,
-        };
-        push_pack(&mut self.packs, &mut self.places, held);
+        });
         let batch = &mut self.batches[batch as usize];
         let group = &mut self.groups[group as usize];
         batch.reach = self.packs.len() as u32;
@@ -245,7 +237,7 @@ impl BatchSums {
         ensures batches { self.new.batches ≡ self.old.batches }
         ensures spare { self.new.spare ≡ self.old.spare }
     {
-        let Some(place) = place_of(&self.places, pack) else {
+        let Some(place) = place_of(&self.packs, pack) else {
             unreachable!()
         };
         let held = self.packs[place];
@@ -307,7 +299,7 @@ impl BatchSums {
     pub fn pack(&self, number: u32) -> Option<Pack>
         ensures { result ≡ find (λ pack. pack.number == number) self.now.packs }
     {
-        let place = place_of(&self.places, number)?;
+        let place = place_of(&self.packs, number)?;
         let held = self.packs[place];
         let group = &self.groups[held.group as usize];
         Some(Pack {
@@ -334,10 +326,28 @@ impl BatchSums {
         while reach > 0 {
             let held = &self.packs[reach as usize - 1];
             note(&mut numbers, held)?;
-            reach = held.before;
+            reach = held.links.before;
         }
         numbers.reverse();
         Ok(numbers)
+    }
+
+    /// The numbers above `after` of the packs of a batch, at most `most` of them, in the order in
+    /// which they were added. It takes memory for them alone, and a step for each of them beside
+    /// the search for the first and the last.
+    pub fn packs_after(
+        &self,
+        alloc: Global,
+        batch: u32,
+        after: u32,
+        most: u32,
+    ) -> Result<Vec<u32>, NoMemory>
+        requires { batch < length self.now.batches }
+        ensures { IfOk result (λ v.
+            v.items ≡ numbers_after after most (of_batch batch self.now.packs)) }
+    {
+        let newest = self.batches[batch as usize].reach;
+        numbers_behind(alloc, &self.packs, newest, after, most)
     }
 
     /// The least number of a batch of a product that is chosen and has a pack on a day of a span,

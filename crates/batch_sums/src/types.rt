@@ -21,6 +21,18 @@ pub struct Pack {
     pub pile: Pile,
 }
 
+// How a pack is linked with those before it in its batch. A reach is how many packs there were when
+// one of a batch had been added: 0 before the first.
+#[derive(Clone, Copy)]
+pub struct Links {
+    // How far the packs before it in its batch reach.
+    pub before: u32,
+    // How far those do that end with one further back.
+    pub skip: u32,
+    // How many packs of its batch there are up to it.
+    pub rank: u32,
+}
+
 // A pack as it is kept. What it shares with the other packs of its batch and day stands in its
 // group.
 #[derive(Clone, Copy)]
@@ -29,9 +41,7 @@ pub struct Held {
     pub number: u32,
     // The place of its group.
     pub group: u32,
-    // How many packs there were when the one before it in its batch had been added: 0 for the
-    // first.
-    pub before: u32,
+    pub links: Links,
     // In mg.
     pub gross: u32,
     pub pile: Pile,

@@ -1,16 +1,16 @@
 -- The packs of a hall keep fitting.
 use Rattle.std.proofs.Common.{◌≡◌, ◌≢◌, ℕ, ℤ, pos, ◌+◌, ◌<◌, ◌+ℤ◌, ◌<ℤ◌, ◌⊎◌, inl, inr, Bool, true, false, ◌||◌, cond, eqb, List, [], ◌∷◌, ◌++◌, map, refl, ap, ◌∙◌, arith}
 use Rattle.std.specs.List.{list_any, All}
-use Rattle.std.proofs.lemmas.Bool.{or_right, ne_eqb}
+use Rattle.std.proofs.lemmas.Bool.{or_right}
 use Rattle.std.proofs.lemmas.Bool.Decides.{eqb_tells}
 use Rattle.std.proofs.lemmas.Int.{ints}
-use Rattle.std.proofs.lemmas.List.Elements.{All-head, All-tail, All-push, All-weaker, All-map}
+use Rattle.std.proofs.lemmas.List.Elements.{All-push, All-weaker, All-map}
 use Rattle.hall_limits.specs.declared.TheConstants.{MAX_DAY, MAX_TARE}
 use Rattle.pack_judge.specs.declared.types.Pile.{Pile}
 use Rattle.pack_judge.specs.declared.tares.Span.{Span}
 use Rattle.batch_sums.specs.Totals.{Terms}
 use Rattle.batch_sums.specs.declared.types.Pack.{Pack}
-use Rattle.batch_sums.specs.Changes.{is_added, moved, is_concerned, corrected, IsUpTo}
+use Rattle.batch_sums.specs.Changes.{IsAbove, is_added, moved, is_concerned, corrected, IsUpTo}
 use Rattle.batch_sums_tests.specs.Halls.{Fits, IsKept}
 
 any-append : (test : Pack → Bool) (xs : List Pack) (y : Pack) → list_any test (xs ++ y ∷ []) ≡ (list_any test xs || (test y || false))
@@ -21,12 +21,9 @@ any-append test (x ∷ xs) y = ap (λ b. test x || b) (any-append test xs y) ∙
     by true = refl
     by false = refl
 
--- the next number is not that of a pack
-pub next_is_new : (next : ℕ) (today tare : ℤ) (packs : List Pack) → All (Fits next today tare) packs → is_added packs next ≡ false
-next_is_new next today tare [] fits = refl
-next_is_new next today tare (p ∷ packs) fits =
-    ap (λ b. b || is_added packs next) (ne_eqb next p.number (λ same. omega (arith, same, (All-head (Fits next today tare) p packs fits).number)))
-    ∙ next_is_new next today tare packs (All-tail (Fits next today tare) p packs fits)
+-- the next number is above those of all packs
+pub next_is_above : (next : ℕ) (today tare : ℤ) (packs : List Pack) → All (Fits next today tare) packs → IsAbove packs next
+next_is_above next today tare packs fits = All-weaker (Fits next today tare) (λ p. p.number < next) (λ p fit. fit.number) packs fits
 
 pub kept_added : (next : ℕ) (today tare : ℤ) (packs : List Pack) (pack : Pack) → pack.number ≡ next → pack.day ≡ today → pack.tare ≡ tare
     → IsKept next today tare packs → IsKept (next + 1) today tare (packs ++ pack ∷ [])

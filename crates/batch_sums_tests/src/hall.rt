@@ -3,7 +3,7 @@
 ghost use Rattle.std.specs.Prelude.{◌≡◌, pos, ◌<◌, ◌≤◌, ◌≤ℤ◌, length};
 ghost use Rattle.batch_sums.specs.Changes.{IsUpTo};
 
-use crate::plain::{PlainPack, plain_totals};
+use crate::plain::{PlainPack, plain_page, plain_totals};
 use annex_tables::Limits;
 use batch_sums::{BatchSums, NoMemory, Steps, Totals};
 use hall_limits::{MAX_DAY, MAX_GROSS, MAX_TARE};
@@ -153,6 +153,38 @@ impl Hall {
             return Ok(None);
         }
         Ok(Some(self.sums.population(alloc, batch)?))
+    }
+
+    /// The numbers above one of the packs of a batch, at most so many, if it is there.
+    pub fn packs_after(
+        &self,
+        alloc: Global,
+        batch: u32,
+        after: u32,
+        most: u32,
+    ) -> Result<Option<Vec<u32>>, NoMemory> {
+        if batch as usize >= self.batches.len() {
+            return Ok(None);
+        }
+        Ok(Some(self.sums.packs_after(alloc, batch, after, most)?))
+    }
+
+    /// The number behind which a page of a batch, of at most so many packs, isn't that of the plain
+    /// list; `None` where none is so.
+    pub fn wrong_page(
+        &self,
+        alloc: Global,
+        batch: u32,
+        most: u32,
+    ) -> Result<Option<u32>, NoMemory> {
+        for after in 0..self.next {
+            let told = self.packs_after(alloc, batch, after, most)?;
+            let wanted = plain_page(alloc, &self.packs, batch, after, most)?;
+            if told != Some(wanted) {
+                return Ok(Some(after));
+            }
+        }
+        Ok(None)
     }
 
     /// The first of the chosen batches that has a pack of a product in a span, if there is a flag

@@ -3,6 +3,7 @@
 use annex_tables::Limits;
 use batch_sums::Totals;
 use pack_judge::{Pile, Tally};
+use std::alloc::{AllocError, Global};
 
 /// A pack of a plain list. Its number is its place.
 #[derive(Clone, Copy)]
@@ -57,4 +58,23 @@ pub fn plain_totals(packs: &[PlainPack], batch: u32, limits: &Limits) -> Totals 
         nonstandard,
         inadequate,
     }
+}
+
+/// The numbers above one of the packs of a batch in a list, at most so many.
+pub fn plain_page(
+    alloc: Global,
+    packs: &[PlainPack],
+    batch: u32,
+    after: u32,
+    most: u32,
+) -> Result<Vec<u32>, AllocError> {
+    let mut page = Vec::new(alloc);
+    let mut number = 0u32;
+    for pack in packs {
+        if pack.batch == batch && number > after && page.len() < most as usize {
+            page.push(number)?;
+        }
+        number = number.saturating_add(1);
+    }
+    Ok(page)
 }

@@ -147,6 +147,32 @@ fn are_populations_told(hall: &Hall, alloc: Global) -> Result<bool, NoMemory> {
     Ok(true)
 }
 
+// A batch, a number, how many at most, and the numbers of its packs above that one.
+const PAGES: [(u32, u32, u32, &[u32]); 9] = [
+    (2, 0, 128, &[2, 4, 5]),
+    (2, 0, 2, &[2, 4]),
+    (2, 2, 128, &[4, 5]),
+    (2, 3, 1, &[4]),
+    (2, 5, 128, &[]),
+    (2, u32::MAX, 128, &[]),
+    (2, 0, 0, &[]),
+    (1, 2, 128, &[3]),
+    (0, 0, 1, &[1]),
+];
+
+// Whether each page is told in the order of its packs, whatever their piles.
+fn are_pages_told(hall: &Hall, alloc: Global) -> Result<bool, NoMemory> {
+    for (batch, after, most, numbers) in PAGES {
+        let Some(told) = hall.packs_after(alloc, batch, after, most)? else {
+            return Ok(false);
+        };
+        if told.as_slice() != numbers {
+            return Ok(false);
+        }
+    }
+    Ok(true)
+}
+
 const ALL: &[bool] = &[true, true, true];
 
 const LATER: &[bool] = &[false, true, true];
@@ -296,7 +322,8 @@ fn take_drawn(hall: &mut Hall, draws: &mut Pcg32) -> Result<(), NoMemory> {
     }
 }
 
-// Drawn calls agree with a plain list. Tells the first call that doesn't.
+// Drawn calls agree with a plain list, and at their end each page does. Tells the first call that
+// doesn't, or the number behind which a page doesn't.
 fn wrong_call(hall: &mut Hall, alloc: Global, seed: u64) -> Result<Option<u32>, NoMemory> {
     let mut draws = Pcg32::new(seed, 54);
     let other = Limits {
@@ -311,6 +338,17 @@ fn wrong_call(hall: &mut Hall, alloc: Global, seed: u64) -> Result<Option<u32>, 
         take_drawn(hall, &mut draws)?;
         if !hall.agrees() {
             return Ok(Some(call));
+        }
+    }
+    wrong_page(hall, alloc)
+}
+
+// The number behind which a page of one of three batches isn't that of the plain list.
+fn wrong_page(hall: &Hall, alloc: Global) -> Result<Option<u32>, NoMemory> {
+    for batch in 0..3 {
+        let wrong = hall.wrong_page(alloc, batch, 16)?;
+        if wrong.is_some() {
+            return Ok(wrong);
         }
     }
     Ok(None)
@@ -337,7 +375,7 @@ fn are_reserved(hall: &mut Hall, alloc: Global, count: u32) -> Result<bool, NoMe
 #[derive(Clone, Copy, Debug, PartialEq)]
 struct Found {
     net: Option<u32>,
-    told: [bool; 3],
+    told: [bool; 4],
     order: Option<i64>,
     calls: [Option<u32>; 4],
     reserved: [bool; 5],
@@ -345,7 +383,7 @@ struct Found {
 
 const RIGHT: Found = Found {
     net: None,
-    told: [true; 3],
+    told: [true; 4],
     order: None,
     calls: [None; 4],
     reserved: [true; 5],
@@ -359,6 +397,7 @@ fn take_cases(hall: &mut Hall, alloc: Global) -> Result<Found, NoMemory> {
         told: [
             are_packs_told(hall),
             are_populations_told(hall, alloc)?,
+            are_pages_told(hall, alloc)?,
             are_batches_told(hall),
         ],
         order: wrong_order(hall, alloc)?,

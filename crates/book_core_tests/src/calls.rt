@@ -213,6 +213,19 @@ fn are_last_rows(book: &Book, batch: Name) -> bool {
     are_rows(book, 8, 8, &rows) && are_rows(book, 10, 10, &[]) && are_rows(book, 11, 10, &[])
 }
 
+// Whether the packs of a batch above a number are these.
+fn are_packs(book: &Book, batch: Name, after: u32, packs: &[PackView]) -> bool {
+    match book.look(&Question::Packs { batch, after }) {
+        Ok(
+            Answered {
+                at: 10,
+                reply: Reply::PacksAre(view),
+            },
+        ) => view.packs.as_slice() == packs,
+        _ => false,
+    }
+}
+
 // Whether a question on the drawn batch is told this reply.
 fn is_told(book: &Book, question: &Question, reply: &Reply) -> bool {
     match book.look(question) {
@@ -229,9 +242,11 @@ fn are_told(book: &Book, batch: Name, product: Name) -> bool {
         unsettled: None,
     };
     let sheet = Reply::SheetIs(sheet_of_both(batch, product));
-    let pack = Reply::PackIs(second_pack(batch, product));
+    let second = second_pack(batch, product);
     is_told(book, &Question::Sheet { batch }, &sheet)
-        && is_told(book, &Question::Pack { pack: 7 }, &pack)
+        && is_told(book, &Question::Pack { pack: 7 }, &Reply::PackIs(second))
+        && are_packs(book, batch, 6, &[second])
+        && are_packs(book, batch, 7, &[])
         && is_told(book, &Question::Lane { lane: 1 }, &Reply::LaneIs(idle))
         && is_told(
             book,

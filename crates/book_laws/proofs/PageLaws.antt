@@ -33,7 +33,7 @@ first_inside : {A : Type 0} (all before count : ℕ) (xs : List A) → length xs
 first_inside all before count xs is few =
     let some = length-take count xs in omega (arith, some, is, few)
 
-first_few : {A : Type 0} (count : ℕ) (xs : List A) → length (take count xs) ≤ count
+pub first_few : {A : Type 0} (count : ℕ) (xs : List A) → length (take count xs) ≤ count
 first_few count xs = let some = length-take count xs in omega (arith, some)
 
 -- so a page can be printed

@@ -1,5 +1,5 @@
 -- What a book tells is in range, and what it refuses with.
-use Rattle.std.proofs.Common.{◌≡◌, ℕ, ℤ, pos, negsuc, neg_ℤ, inl, inr, unsigned_abs, zero, suc, ◌+◌, ◌-◌, ◌-ℤ◌, ◌*◌, ◌≤◌, ◌≤ℤ◌, ◌==◌, ◌&&◌, cond, if◌then◌else◌, length, take, drop, filter, slice_get, Result, Ok, Err, Bool, true, false, not, int_le, int_lt, List, [], ◌∷◌, ◌++◌, Option, Some, None, IfSome, is_none, option_map, subst, arith}
+use Rattle.std.proofs.Common.{◌≡◌, ℕ, ℤ, pos, negsuc, neg_ℤ, inl, inr, unsigned_abs, zero, suc, ◌+◌, ◌-◌, ◌-ℤ◌, ◌*◌, ◌≤◌, ◌≤ℤ◌, ◌==◌, ◌&&◌, cond, if◌then◌else◌, length, take, drop, filter, nat_lt, map, slice_get, Result, Ok, Err, Bool, true, false, not, int_le, int_lt, List, [], ◌∷◌, ◌++◌, Option, Some, None, IfSome, is_none, option_map, subst, arith}
 use Rattle.std.proofs.lemmas.Bool.{and_parts, cases_Bool}
 use Rattle.std.proofs.lemmas.Bool.Decides.{nat_tests}
 use Rattle.std.proofs.lemmas.Int.{ints}
@@ -58,7 +58,7 @@ use Rattle.book_words.specs.Verdicts.{second_packs, first_defective}
 use Rattle.book_words.specs.Desks.{Row, is_desk_right, last_request, newest_row, repeated_row, same_act, desk_number}
 use Rattle.book_words.specs.Refusals as rules
 use Rattle.book_words.specs.Refusals.{refused_if, first_refusal, is_within, refusals_of, desk_refusals, refusal_of}
-use Rattle.book_words.specs.Views.{sheet_record, sheet_of, pack_record, view_of_reading, pack_view, sample_view, summary, told_or, refused_or, question_told}
+use Rattle.book_words.specs.Views.{sheet_record, sheet_of, pack_record, view_of_reading, pack_view, sample_view, summary, told_or, refused_or, question_told, numbers_after, packs_after}
 use Rattle.book_words.specs.Answers.{reply_behind, judged_or_done, desk_answer, want_answer, question_answer, IsLegal}
 use Rattle.book_words.specs.Soundness.{IsAnswer, IsRefusal}
 use Rattle.book_words.specs.Ranges.{IsBetween, IsGrossInRange, IsSummaryInRange, IsSheetInRange, IsPackInRange, IsSampleInRange, IsReplyInRange, IsRefusalInRange, is_act_in_range, AllInRange}
@@ -922,7 +922,7 @@ views_few view (number ∷ numbers) =
     either (view number) (filter_map view numbers) (views_few view numbers)
   where
     either : (o : Option PackView) (views : List PackView) → length views ≤ length numbers
-        → length (cons_option o views) ≤ length numbers + 1
+        → length (cons_option o views) ≤ suc (length numbers)
     either None views h = omega (arith, h)
     either (Some found) views h = omega (arith, h)
 

@@ -1,10 +1,9 @@
 -- Which numbers were added.
-use Rattle.std.proofs.Common.{◌≡◌, ℕ, zero, suc, ◌+◌, ◌<◌, ◌≤◌, ◌==◌, Bool, true, false, ◌||◌, ◌&&◌, cond, List, [], ◌∷◌, length, map, Option, Some, None, is_some, refl, sym, ◌∙◌, ap, arith, inl, inr}
+use Rattle.std.proofs.Common.{◌≡◌, ℕ, zero, suc, ◌+◌, ◌<◌, ◌==◌, Bool, true, false, ◌||◌, ◌&&◌, cond, List, [], ◌∷◌, map, Option, Some, None, is_some, refl, sym, ◌∙◌, ap, arith, inl, inr}
 use Rattle.std.specs.Bool.{IsTrue}
-use Rattle.std.specs.List.{AllByRecursion, find, slice_set, range_with_len}
+use Rattle.std.specs.List.{find, slice_set, range_with_len}
 use Rattle.std.specs.Option.{option_and_then}
 use Rattle.std.proofs.lemmas.Bool.{cases_Bool, eqb-true, eq-eqb}
-use Rattle.std.proofs.lemmas.Bool.Decides.{nat_tests}
 use Rattle.batch_sums.specs.declared.types.Pack.{Pack}
 use Rattle.pack_groups.specs.Population.{is_counted}
 use Rattle.batch_sums.specs.Changes.{is_added, moved}
@@ -15,7 +14,6 @@ use Rattle.book_words.specs.declared.act.Reading.{Reading}
 use Rattle.book_words.specs.Readings.{readings, reading_of}
 use Rattle.book_packs.specs.Settling.{takes_out, if_counted, leaving, if_counts_for}
 use Rattle.book_packs.specs.Stand.{pack_of, packs_in}
-use Rattle.book_packs.proofs.NumberOrder.{numbers_within}
 use Rattle.book_words.proofs.PlainLemmas.{eqb-swap}
 
 -- what is found was added
@@ -66,20 +64,6 @@ leaving_is_added (Some number) prior packs pack h =
     each false o there k = absurd (cc)
     each true None there k = absurd (cc)
     each true (Some other) there k = counted other (is_counted other.pile) there k
-
--- a number above those of all readings wasn't added
-pub not_added : (entries : List Entry) (number : ℕ) → length entries < number
-    → is_added (packs_in entries) number ≡ false
-not_added entries number h = among (readings entries) (numbers_within entries)
-  where
-    apart : (a b : ℕ) → a < b → (b == a) ≡ false
-    apart a b k = grind (arith, nat_tests)
-
-    among : (some : List Reading) → AllByRecursion (λ reading. reading.number ≤ length entries) some
-        → is_added (map (pack_of entries) some) number ≡ false
-    among [] all = refl
-    among (reading ∷ some) all = ap (λ b. b || is_added (map (pack_of entries) some) number)
-        (apart reading.number number (omega (arith, h, all.0))) ∙ among some all.1
 
 -- a pack of a reading was added
 pub reading_is_added : (entries : List Entry) (number : ℕ)

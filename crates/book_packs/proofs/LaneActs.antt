@@ -14,7 +14,7 @@ use Rattle.pack_judge.specs.declared.types.Pile.TheVariants.{Voided}
 use Rattle.pack_judge.specs.declared.types.Signal.{Signal}
 use Rattle.pack_judge.specs.declared.types.Signal.TheVariants.{Pass, Reject}
 use Rattle.batch_sums.specs.declared.types.Pack.{Pack}
-use Rattle.batch_sums.specs.Changes.{is_added, moved, IsUpTo, IsTareOf}
+use Rattle.batch_sums.specs.Changes.{IsAbove, is_added, moved, IsUpTo, IsTareOf}
 use Rattle.book_words.specs.declared.name.Name.{Name}
 use Rattle.book_words.specs.declared.act.Prior.{Prior}
 use Rattle.book_words.specs.declared.act.Act.TheVariants.{Weigh, StopLane}
@@ -41,7 +41,8 @@ use Rattle.book_packs.proofs.Lone.{is_lane_unsettled, list_settled, number_kept}
 use Rattle.book_packs.proofs.SampleNumbers.{is_draw, holds, holds_no_next, sampled_stays}
 use Rattle.book_packs.proofs.StandingTerms.{tares_keep, batches_keep, packs-push, pack_kept, tare_keeps}
 use Rattle.book_packs.proofs.LaneSettlement.{IsLaneAct, settled_is}
-use Rattle.book_packs.proofs.AddedNumbers.{range_set, reading_is_added, not_added}
+use Rattle.book_packs.proofs.AddedNumbers.{range_set, reading_is_added}
+use Rattle.book_packs.proofs.NumberOrder.{numbers_within}
 use Rattle.book_packs.proofs.TareLimits.{light_reading}
 use Rattle.book_words.proofs.PlainLemmas.{eqb-swap}
 use Rattle.std.proofs.lemmas.Option.{same_Some}
@@ -405,16 +406,14 @@ module _ (entries : List Entry) (entry : Entry) (weighing : Weighing)
       (advance entry.act reading)) (readings entries)
       (all_then one_tare (readings entries) (known_behind entries entry is.next).weighed))
 
-  pub is_new : is_added
+  pub is_above : IsAbove
       (map (λ reading. pack_of (entries ++ entry ∷ []) (advance entry.act reading))
-      (readings entries)) weighing.number ≡ false
-  is_new = by_numbers (readings entries) ∙ not_added entries weighing.number new_number
-    where
-      by_numbers : (some : List Reading)
-          → is_added (map (λ reading. pack_of (entries ++ entry ∷ []) (advance entry.act reading))
-          some) weighing.number ≡ is_added (map (pack_of entries) some) weighing.number
-      by_numbers [] = refl
-      by_numbers (reading ∷ some) = ap (λ b. (weighing.number == reading.number) || b) (by_numbers some)
+      (readings entries)) weighing.number
+  is_above =
+      All-from_recursion _ _ (all-map (λ (pack : Pack). pack.number < weighing.number)
+      (λ reading. pack_of (entries ++ entry ∷ []) (advance entry.act reading)) (readings entries)
+      (all_then (λ reading within. omega (arith, within, new_number)) (readings entries)
+      (numbers_within entries)))
 
 -- ---- a pack taken back
 

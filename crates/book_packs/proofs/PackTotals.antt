@@ -1,6 +1,6 @@
 -- What the packs tell is what the readings tell.
 use Rattle.std.proofs.Common.{◌≡◌, ℕ, ℤ, suc, ◌==◌, Bool, true, false, List, [], ◌∷◌, length, map, Some, option_map, refl, sym, ◌∙◌, ap}
-use Rattle.std.specs.Prelude.{int_lt, ◌+ℤ◌, filter, find, count_by}
+use Rattle.std.specs.Prelude.{int_lt, nat_lt, ◌+ℤ◌, take, filter, find, count_by}
 use Rattle.std.specs.List.{AllByRecursion, slice_get}
 use Rattle.std.specs.Option.{option_and_then, option_map_or, unwrap_or}
 use Rattle.std.proofs.lemmas.Option.{slice_get-map}
@@ -175,6 +175,16 @@ module _ (entries : List Entry) where
       ap (λ some. asked.numbers_of (sums.population some)) (of_batch_is name number is weighed)
       ∙ ap asked.numbers_of (population_is name)
       ∙ map-map (λ (pack : Pack). pack.number) (pack_of entries) (population entries name)
+
+  pub page_is : (name : Name) (number after most : ℕ) → batch_number entries name ≡ Some number
+      → AllByRecursion (IsWeighed entries) (readings entries)
+      → asked.numbers_after after most (sums.of_batch number (packs_in entries))
+      ≡ take most (filter (λ n. nat_lt after n)
+      (map (λ (reading : Reading). reading.number) (readings_of_batch entries name)))
+  page_is name number after most is weighed =
+      ap (asked.numbers_after after most) (of_batch_is name number is weighed)
+      ∙ ap (λ ns. take most (filter (λ n. nat_lt after n) ns))
+      (map-map (λ (pack : Pack). pack.number) (pack_of entries) (readings_of_batch entries name))
 
   pub pack_is : (number : ℕ) → find (λ pack. pack.number == number) (packs_in entries)
       ≡ pack_told entries number

@@ -8,6 +8,7 @@ ghost use Rattle.book_words.specs.Order.{product_number, batch_number};
 ghost use Rattle.book_words.specs.Tares.{tare_of_product};
 ghost use Rattle.book_words.specs.Population.{population};
 ghost use Rattle.book_words.specs.Samples.{numbers_of};
+ghost use Rattle.book_words.specs.Views.{numbers_after};
 ghost use Rattle.book_packs.specs.Stand.{IsPacksOf, limits_told, unsettled_number};
 ghost use Rattle.book_packs.specs.Entering.{IsWeighing, IsStop, IsVoid, IsDraw, MayDraw, IsTarePut, IsOpening, MayPutTare, MayWeigh, MayStop, MayVoid, newly_unsettled};
 ghost use Rattle.batch_sums.specs.Changes.{concerned, group_count, HasFewPerGroup};
@@ -18,7 +19,7 @@ use crate::settling::{leaving, met_less, sample, settle, signal_pile};
 use crate::types::{AtWeighing, NoMemory, Weighing};
 use annex_tables::Limits;
 use batch_sums::{BatchSums, Pack, Piles, STEPS_PER_GROUP, Steps, Totals};
-use book_words::Prior;
+use book_words::{MAX_PAGE, Prior};
 use hall_limits::MAX_LANE;
 use pack_judge::{Pile, Signal};
 use std::alloc::Global;
@@ -180,6 +181,17 @@ impl Packs {
             → IfOk result (λ packs. IsStrictlyIncreasing packs.items) }
     {
         self.sums.population(alloc, batch)
+    }
+
+    /// The numbers above `after` of the readings of a batch, at most a page of them, in the order
+    /// in which they were weighed. It takes memory for them alone.
+    pub fn packs_after(&self, alloc: Global, batch: u32, after: u32) -> Result<Vec<u32>, NoMemory>
+        requires { batch < length self.now.batches }
+        ensures { (entries : List Entry) (name : Name) → IsPacksOf entries self.now
+            → IsLegal entries → batch_number entries name ≡ Some batch
+            → IfOk result (λ numbers. numbers.items ≡ numbers_after entries name after) }
+    {
+        self.sums.packs_after(alloc, batch, after, MAX_PAGE)
     }
 
     /// Reserves room for `more` further acts; where there is room, nothing is done. While there is

@@ -11,9 +11,10 @@ use Rattle.book_words.specs.declared.act.Reading.{Reading}
 use Rattle.book_words.specs.Acts.{said, batch_opened, product_of, state_of}
 use Rattle.book_words.specs.Order.{batch_number}
 use Rattle.book_words.specs.Readings.{readings, is_of_batch}
-use Rattle.book_words.specs.Population.{population, is_counted}
+use Rattle.book_words.specs.Population.{readings_of_batch, population, is_counted}
 use Rattle.book_words.specs.Samples.{sample_of}
 use Rattle.book_words.specs.Answers.{IsLegal}
+use Rattle.book_packs.proofs.Lists.{filter-filter}
 use Rattle.book_packs.specs.Stand.{Standing, IsPacksOf, terms_of_batch}
 use Rattle.book_index.proofs.LegalNames.{legal_named}
 use Rattle.book_words.proofs.PlaceLemmas.{place_of-name}
@@ -74,17 +75,16 @@ none_filtered test (r ∷ rs) all =
     (All-head (λ (x : Reading). test x ≡ false) r rs all)
     ∙ none_filtered test rs (All-tail (λ (x : Reading). test x ≡ false) r rs all)
 
--- and no packs
-pub no_population : (entries : List Entry) (batch : Name) → IsLegal entries
-    → product_of entries batch ≡ None → population entries batch ≡ []
-no_population entries batch legal none =
-    none_filtered (λ (r : Reading). is_of_batch batch r && is_counted r) (readings entries)
-    (All-weaker (Belongs entries) (λ (r : Reading). (is_of_batch batch r && is_counted r) ≡ false)
+-- and no readings
+pub no_readings : (entries : List Entry) (batch : Name) → IsLegal entries
+    → product_of entries batch ≡ None → readings_of_batch entries batch ≡ []
+no_readings entries batch legal none =
+    none_filtered (is_of_batch batch) (readings entries)
+    (All-weaker (Belongs entries) (λ (r : Reading). is_of_batch batch r ≡ false)
     (λ r has. each r has (is_of_batch batch r) refl) (readings entries)
     (each_belongs entries legal))
   where
-    each : (r : Reading) (has : Belongs entries r) (b : Bool) → is_of_batch batch r ≡ b
-        → (b && is_counted r) ≡ false
+    each : (r : Reading) (has : Belongs entries r) (b : Bool) → is_of_batch batch r ≡ b → b ≡ false
     each r has false is = refl
     each r has true is =
         let there : is_some (state_of entries batch) ≡ true =
@@ -92,3 +92,10 @@ no_population entries batch legal none =
         (batch_of entries r batch has is) has.known in
         absurd (let clash : false ≡ true = sym (ap is_some (stateless entries batch legal none))
         ∙ there in cc)
+
+-- so none in its population
+pub no_population : (entries : List Entry) (batch : Name) → IsLegal entries
+    → product_of entries batch ≡ None → population entries batch ≡ []
+no_population entries batch legal none =
+    sym (filter-filter is_counted (is_of_batch batch) (readings entries))
+    ∙ ap (filter is_counted) (no_readings entries batch legal none)

@@ -1,4 +1,4 @@
-ghost use Rattle.std.specs.Prelude.{◌≡◌, ◌≤◌, ◌≤ℤ◌, ◌==◌, pos, false, length, slice_get, None, Some, IfSome, is_none, option_map};
+ghost use Rattle.std.specs.Prelude.{◌≡◌, ◌≤◌, ◌≤ℤ◌, ◌==◌, pos, false, length, slice_get, None, Some, IfOk, IfSome, is_none, option_map};
 ghost use Rattle.std.specs.Option.{option_and_then, option_map_or};
 ghost use Rattle.annex_tables.specs.declared.TheConstants.{MAX_POPULATION};
 ghost use Rattle.hall_limits.specs.declared.TheConstants.{MAX_GROSS, MAX_TARE};
@@ -12,6 +12,7 @@ ghost use Rattle.book_words.specs.Population as population;
 ghost use Rattle.book_words.specs.Piles.{pile_of};
 ghost use Rattle.book_words.specs.Classes.{density_of_batch, limits_of_batch};
 ghost use Rattle.book_words.specs.Refusals as rules;
+ghost use Rattle.book_words.specs.Views.{numbers_after};
 ghost use Rattle.book_words.specs.Answers.{IsLegal};
 ghost use Rattle.book_index.specs.Listed as listed;
 ghost use Rattle.book_packs.specs.Densities.{limits_at};
@@ -19,12 +20,13 @@ ghost use Rattle.book_packs.specs.Told.{piles_told};
 ghost use Rattle.book_state.specs.Known as told;
 
 use crate::state::State;
-use crate::types::KnownPack;
+use crate::types::{KnownPack, NoMemory};
 use annex_tables::Limits;
 use batch_sums::{Pack, Piles, Totals};
 use book_words::{Act, Name};
 use hall_limits::MAX_LANE;
 use pack_judge::Signal;
+use std::alloc::Global;
 
 impl State {
     /// The tare of a product on a day, in mg.
@@ -136,6 +138,18 @@ impl State {
         match self.index.batch_number(batch) {
             Some(number) => self.packs.totals(number).population,
             None => 0,
+        }
+    }
+
+    /// The numbers above `after` of the readings of a batch, at most a page of them; none where
+    /// there is no such batch. It takes memory for them alone.
+    pub fn packs_after(&self, alloc: Global, batch: &Name, after: u32) -> Result<Vec<u32>, NoMemory>
+        ensures { IfOk result (λ numbers.
+            numbers.items ≡ numbers_after self.now.entries batch.now after) }
+    {
+        match self.index.batch_number(batch) {
+            Some(number) => self.packs.packs_after(alloc, number, after),
+            None => Ok(Vec::new(alloc)),
         }
     }
 

@@ -2,6 +2,7 @@
 //! All masses are whole milligrams.
 #![tactic(auto)]
 
+mod packs;
 mod questions;
 mod rows;
 mod tallies;

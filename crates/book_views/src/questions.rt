@@ -1,6 +1,7 @@
 ghost use Rattle.std.specs.Prelude.{◌≡◌, false, Ok, IfOk, IsOk};
 ghost use Rattle.book_words.specs.Views as told;
 
+use crate::packs::view_packs;
 use crate::rows::view_rows;
 use crate::views::{summarize, view_lane, view_pack, view_sample, view_sheet};
 use book_verdicts::{NoMemory, State, lane_number};
@@ -77,6 +78,23 @@ fn tell_shipment(
     Ok(Ok(Reply::ShipmentIs(view)))
 }
 
+// The packs of a batch above a number, a page of them.
+fn tell_packs(
+    alloc: Global,
+    state: &State,
+    batch: &Name,
+    after: u32,
+) -> Result<Result<Reply, Refusal>, NoMemory>
+    ensures { IfOk result (λ answer. answer
+        ≡ told.question_told state.now.entries (Question.Packs batch.now after)) }
+{
+    if state.product(batch).is_none() {
+        return Ok(Err(Refusal::BatchUnknown));
+    }
+    let view = view_packs(alloc, state, batch, after)?;
+    Ok(Ok(Reply::PacksAre(view)))
+}
+
 /// The answer to a question. Memory is taken for the packs of a sample and for a page alone.
 pub fn look(
     alloc: Global,
@@ -95,5 +113,6 @@ pub fn look(
         Question::Summary => Ok(Ok(Reply::SummaryIs(summarize(state)))),
         Question::Rows { after } => tell_rows(alloc, state, *after),
         Question::Shipment { after } => tell_shipment(alloc, state, *after),
+        Question::Packs { batch, after } => tell_packs(alloc, state, batch, *after),
     }
 }

@@ -5,7 +5,7 @@ ghost use Rattle.std.specs.Char.{is_ascii_digit};
 ghost use Rattle.hall_units.specs.Printing.{Prints};
 ghost use Rattle.hall_units.specs.Grams.{milligrams_of, mass_of, numeral_of, places_of, gram_text, sign_text, three_digits, IsReadMass, IsSpelledTo};
 
-use crate::decimal::{MAX_DECIMAL, push_decimal};
+use crate::decimal::{MAX_DECIMAL, push_number};
 use crate::number::read_bounded;
 use crate::push::{make_room, push_bytes};
 use crate::types::{GramText, NoMemory};
@@ -117,7 +117,7 @@ pub fn print_grams(mg: i64, to: &mut Vec<u8>) -> Result<(), NoMemory>
     make_room(to, MAX_GRAM_TEXT)?;
     push_sign(mg, to)?;
     let mass = mg.unsigned_abs();
-    push_decimal(to, u128::from(mass / 1_000))?;
+    push_number(to, mass / 1_000)?;
     push_places(mass % 1_000, to)?;
     Ok(())
 }

@@ -202,9 +202,41 @@ fn wrong_last(routes: &Routes, alloc: Global) -> Option<&'static [u8]> {
     None
 }
 
-// The first request that isn't told as its question.
-fn wrong_question(routes: &Routes, alloc: Global, batch: Name) -> Option<&'static [u8]> {
-    let rows: [(&'static [u8], Question); 8] = [
+// Requests that ask questions about no batch.
+const QUESTIONS: [(&[u8], Question); 6] = [
+    (
+        b"GET /packs/4294967295 HTTP/1.1\r\n\r\n",
+        Question::Pack {
+            pack: 4_294_967_295,
+        },
+    ),
+    (
+        b"GET /packs/007 HTTP/1.1\r\n\r\n",
+        Question::Pack { pack: 7 },
+    ),
+    (
+        b"GET /lanes/17 HTTP/1.1\r\n\r\n",
+        Question::Lane { lane: 17 },
+    ),
+    (
+        b"GET /lanes/255?day=1/2 HTTP/1.1\r\n\r\n",
+        Question::Lane { lane: 255 },
+    ),
+    (
+        b"GET /acts/4294967295 HTTP/1.1\r\n\r\n",
+        Question::Rows {
+            after: 4_294_967_295,
+        },
+    ),
+    (
+        b"GET /rows/0 HTTP/1.1\r\n\r\n",
+        Question::Shipment { after: 0 },
+    ),
+];
+
+// Requests that ask questions about the batch A.
+fn batch_questions(batch: Name) -> [(&'static [u8], Question); 3] {
+    [
         (
             b"GET /batches/A HTTP/1.1\r\nHost: 127.0.0.1:8080\r\nUser-Agent: curl/8.5.0\r\n\
 Accept: */*\r\n\r\n",
@@ -215,40 +247,32 @@ Accept: */*\r\n\r\n",
             Question::Sample { batch },
         ),
         (
-            b"GET /packs/4294967295 HTTP/1.1\r\n\r\n",
-            Question::Pack {
-                pack: 4_294_967_295,
-            },
-        ),
-        (
-            b"GET /packs/007 HTTP/1.1\r\n\r\n",
-            Question::Pack { pack: 7 },
-        ),
-        (
-            b"GET /lanes/17 HTTP/1.1\r\n\r\n",
-            Question::Lane { lane: 17 },
-        ),
-        (
-            b"GET /lanes/255?day=1/2 HTTP/1.1\r\n\r\n",
-            Question::Lane { lane: 255 },
-        ),
-        (
-            b"GET /acts/4294967295 HTTP/1.1\r\n\r\n",
-            Question::Rows {
+            b"GET /batches/A/packs/4294967295 HTTP/1.1\r\n\r\n",
+            Question::Packs {
+                batch,
                 after: 4_294_967_295,
             },
         ),
-        (
-            b"GET /rows/0 HTTP/1.1\r\n\r\n",
-            Question::Shipment { after: 0 },
-        ),
-    ];
-    for (bytes, asked) in &rows {
+    ]
+}
+
+// The first of some requests that isn't told as its question.
+fn wrong_among(
+    routes: &Routes,
+    alloc: Global,
+    rows: &[(&'static [u8], Question)],
+) -> Option<&'static [u8]> {
+    for (bytes, asked) in rows {
         if frame_with_routes(routes, alloc, bytes, true) != question(bytes.len(), *asked, false) {
             return Some(bytes);
         }
     }
     None
+}
+
+// The first request that isn't told as its question.
+fn wrong_question(routes: &Routes, alloc: Global, batch: Name) -> Option<&'static [u8]> {
+    wrong_among(routes, alloc, &QUESTIONS).or(wrong_among(routes, alloc, &batch_questions(batch)))
 }
 
 // What a part of the POST is at the end of the input.

@@ -4,7 +4,7 @@ use std::alloc::Global;
 use std::test::Fail;
 
 // Targets at which nothing is found.
-const UNKNOWN: [&[u8]; 27] = [
+const UNKNOWN: [&[u8]; 32] = [
     b"*",
     b"?/summary",
     b"//",
@@ -27,6 +27,11 @@ const UNKNOWN: [&[u8]; 27] = [
     b"/batches/A//sample",
     b"/batches/A/sample/x",
     b"/batches/A/Sample",
+    b"/batches/A/packs",
+    b"/batches/A/packs/",
+    b"/batches/A/packs/x",
+    b"/batches/A/packs/1/",
+    b"/batches//packs/1",
     b"/packs//",
     b"/packs/1.0",
     b"/packs/000000000000000000001",

@@ -1,3 +1,6 @@
 mod Parts
 mod Walks
 mod Shipping
+mod Above
+mod Listed
+mod PackWalks

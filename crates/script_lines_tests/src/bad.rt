@@ -20,6 +20,7 @@ works 1 b1
 @101 1 sample b1
 @101 1 summary
 @101 1 acts 1
+@101 1 packs b1 1
 draw b1 Keep 7
 draw b1 7 keep
 draw b1 keeps 7
@@ -171,6 +172,11 @@ acts b1
 acts 1 2
 acts -1
 acts 4294967296
+packs
+packs b1
+packs b1 -1
+packs b1 4294967296
+packs b1 1 2
 @101 1 1 day 2025-03-03
 @101 1 @101 1 day 2025-03-03";
 

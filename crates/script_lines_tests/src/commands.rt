@@ -237,7 +237,7 @@ fn draw(batch: Name, mode: Mode, word: u64) -> Verb {
 }
 
 // Commands with the name of a batch, the last of them a desk's.
-fn with_batch(batch: Name) -> [Row; 9] {
+fn with_batch(batch: Name) -> [Row; 10] {
     let second = Verb::Second {
         batch,
         word: u64::MAX,
@@ -257,6 +257,13 @@ fn with_batch(batch: Name) -> [Row; 9] {
         plain(b"close b1", Verb::Close { batch }),
         plain(b"sheet b1", Verb::Sheet { batch }),
         plain(b"sample b1", Verb::Sample { batch }),
+        plain(
+            b"packs b1 4294967295",
+            Verb::Packs {
+                batch,
+                after: u32::MAX,
+            },
+        ),
         (
             b"@00000000000000065535 4294967295 end b1",
             u16::MAX,

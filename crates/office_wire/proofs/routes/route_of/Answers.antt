@@ -12,7 +12,7 @@ returns-in_err-spot c =
 pub returns : goal.returns
 returns c =
     c.spot_route.ensures
-    ∙ ap (λ text. spot_route c.in_ok-spot.spot text) c.as_bytes.ensures.value
-    ∙ route_found c.path_of.result.now (Some (c.in_ok-spot.spot, c.in_ok-spot.text.now))
-    c.in_ok-spot.ensures
+    ∙ (λ i. spot_route c.in_ok-spot.spot (c.as_bytes.ensures.value i) (c.as_bytes-2.ensures.value i))
+    ∙ route_found c.path_of.result.now
+    (Some (c.in_ok-spot.spot, c.in_ok-spot.text.now, c.in_ok-spot.more.now)) c.in_ok-spot.ensures
     ∙ ap (λ path. segments_route (segments path)) c.path_of.ensures

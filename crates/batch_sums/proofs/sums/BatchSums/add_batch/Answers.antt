@@ -27,8 +27,7 @@ invariant_of-self c =
         index = settled.index;
         used = settled.used;
         small = settled.small;
-        apart = settled.apart;
-        numbered = settled.numbered;
+        rising = settled.rising;
         chained = chained_as _ _ _ _ _ _
             (ap reaches_of pushed ∙ map-append (λ (b : Batch). b.reach) sums.batches.items
             (c.new.result ∷ []) ∙ ap (λ n. reaches_of sums.batches.items ++ n ∷ []) made.reach) refl
@@ -47,7 +46,6 @@ invariant_of-self c =
         );
         groups = omega (arith, room.groups);
         packs = omega (arith, room.packs);
-        places = omega (arith, room.places);
         nodes = omega (arith, room.nodes);
         back = room.back;
         order_nodes = omega (arith, room.order_nodes);

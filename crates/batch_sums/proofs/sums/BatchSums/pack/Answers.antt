@@ -1,6 +1,5 @@
-use Rattle.std.proofs.Common.{◌≡◌, ◌<◌, eqb, length, map, Some, option_map, refl, ap, sym, subst, ◌∙◌, arith, to_z, w32, w64}
+use Rattle.std.proofs.Common.{◌≡◌, ◌<◌, eqb, length, map, None, Some, option_map, refl, ap, sym, subst, ◌∙◌, arith, to_z, w32, w64}
 use Rattle.std.specs.Prelude.{pos}
-use Rattle.std.specs.HashMap.{get}
 use Rattle.std.specs.List.{find, slice_get}
 use Rattle.std.specs.Option.{option_and_then}
 use Rattle.std.proofs.lemmas.Int.{ints}
@@ -12,7 +11,7 @@ use Rattle.batch_sums.specs.Kept.{seen}
 use Rattle.batch_sums.specs.Totals.{Sums}
 use Rattle.batch_sums.proofs.NumberPlaces.{find-numbered}
 use Rattle.batch_sums.proofs.PileMoves.{in_group, light_pack, at_group, kept_group}
-use Rattle.batch_sums.proofs.Numbers.{number_at}
+use Rattle.batch_sums.proofs.Numbers.{number_at, found_by}
 use Rattle.batch_sums.proofs.SoundLemmas.{face-found}
 use Rattle.batch_sums.proofs.sums.BatchSums.pack.Goals as goal
 
@@ -25,8 +24,8 @@ returns-in_err-place c =
     ∙ sym (ap (λ (s : Sums). find (λ pack. eqb pack.number c.args.number) s.packs) (sym c.self.view_is)
     ∙ find-numbered fs c.args.number held
     ∙ ap (option_and_then (slice_get (map (seen fs) held)))
-    (sym (c.self.invariant.settled.numbered c.args.number))
-    ∙ ap (option_and_then (slice_get (map (seen fs) held))) (sym c.in_err-place.ensures.index))
+    (sym (found_by c.deref.result.now held None c.args.number c.deref.ensures.value
+    c.self.invariant.settled.rising c.in_err-place.ensures)))
 
 pub returns : goal.returns
 returns c =
@@ -38,8 +37,8 @@ returns c =
     let held = sums.packs.items in
     let h = c.index-held.result.now in
     let group = c.index-group.result.now in
-    let found = number_at (get eqb sums.places) held c.in_ok-place.place c.args.number h
-    settled.numbered c.in_ok-place.ensures.index c.index-held.ensures in
+    let found = number_at c.deref.result.now held c.in_ok-place.place c.args.number h
+    c.deref.ensures.value settled.rising c.in_ok-place.ensures c.index-held.ensures in
     let face = face-found gs h.group group
     (at_group bs gs held settled.sound c.in_ok-place.place h c.index-held.ensures found.0 group
     c.index-group.ensures) in
@@ -76,6 +75,7 @@ returns c =
     }))
     ∙ sym (ap (λ (s : Sums). find (λ pack. eqb pack.number c.args.number) s.packs) (sym c.self.view_is)
     ∙ find-numbered fs c.args.number held
-    ∙ ap (option_and_then (slice_get (map (seen fs) held))) (sym (settled.numbered c.args.number))
-    ∙ ap (option_and_then (slice_get (map (seen fs) held))) (sym c.in_ok-place.ensures.index)
+    ∙ ap (option_and_then (slice_get (map (seen fs) held)))
+    (sym (found_by c.deref.result.now held (Some c.in_ok-place.place) c.args.number
+    c.deref.ensures.value settled.rising c.in_ok-place.ensures))
     ∙ slice_get-map (seen fs) held c.in_ok-place.place ∙ ap (option_map (seen fs)) at)

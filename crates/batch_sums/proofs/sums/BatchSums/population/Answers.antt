@@ -4,6 +4,7 @@ use Rattle.std.proofs.lemmas.List.{length-map, get_or-map}
 use Rattle.std.proofs.lemmas.Option.{slice_get_read, slice_get-map, get_or_from_slice_get}
 use Rattle.pack_groups.specs.declared.batch.Batch.{Batch}
 use Rattle.batch_sums.specs.declared.types.Held.{Held}
+use Rattle.batch_sums.specs.declared.types.Links.{Links}
 use Rattle.batch_sums.specs.declared.types.Pack.{Pack}
 use Rattle.pack_groups.specs.Groups.{faces}
 use Rattle.batch_sums.specs.Kept.{terms_of, seen, reach_of}
@@ -72,16 +73,17 @@ loop-reach-smaller c =
     let read : get_or held place h ≡ h = sym c.index-held.ensures in
     let home : get_or (homes_of packs) place 0 ≡ c.args.batch =
     own c.args.batch packs c.loop-reach.reach c.loop-reach.numbers.items walked place next in
-    let before : h.before ≡ reach_of c.args.batch (take place (homes_of packs)) =
-    ap (λ (p : Held). p.before) (sym read)
-    ∙ sym (get_or-map (λ (p : Held). p.before) held place h 0 within)
-    ∙ settled.chained.before place
-    (omega (arith, within, length-map packs (λ (p : Pack). p.batch), length-map held (seen fs)))
-    ∙ ap (λ n. reach_of n (take place (homes_of packs))) home in
+    let linked = settled.chained.linked place h.links
+    (omega (arith, within, length-map packs (λ (p : Pack). p.batch), length-map held (seen fs))) in
+    let before : h.links.before ≡ reach_of c.args.batch (take place (homes_of packs)) =
+    ap (λ (p : Held). p.links.before) (sym read)
+    ∙ ap (λ (l : Links). l.before)
+    (sym (get_or-map (λ (p : Held). p.links) held place h h.links within))
+    ∙ linked.before ∙ ap (λ n. reach_of n (take place (homes_of packs))) home in
     omega (
       arith,
       lower c.args.batch packs c.loop-reach.reach c.loop-reach.numbers.items walked
-          place next h.before before,
+          place next h.links.before before,
       next,
     )
 
@@ -106,12 +108,13 @@ loop-reach-preserved c =
     get_or-map (seen fs) held place h (seen fs h) within ∙ ap (seen fs) read in
     let home : get_or (homes_of packs) place 0 ≡ c.args.batch =
     own c.args.batch packs c.loop-reach.reach c.loop-reach.numbers.items walked place next in
-    let before : h.before ≡ reach_of c.args.batch (take place (homes_of packs)) =
-    ap (λ (p : Held). p.before) (sym read)
-    ∙ sym (get_or-map (λ (p : Held). p.before) held place h 0 within)
-    ∙ settled.chained.before place
-    (omega (arith, within, length-map packs (λ (p : Pack). p.batch), length-map held (seen fs)))
-    ∙ ap (λ n. reach_of n (take place (homes_of packs))) home in
-    subst (λ ps. IsWalked c.args.batch ps h.before c.note.new.numbers.items) view
+    let linked = settled.chained.linked place h.links
+    (omega (arith, within, length-map packs (λ (p : Pack). p.batch), length-map held (seen fs))) in
+    let before : h.links.before ≡ reach_of c.args.batch (take place (homes_of packs)) =
+    ap (λ (p : Held). p.links.before) (sym read)
+    ∙ ap (λ (l : Links). l.before)
+    (sym (get_or-map (λ (p : Held). p.links) held place h h.links within))
+    ∙ linked.before ∙ ap (λ n. reach_of n (take place (homes_of packs))) home in
+    subst (λ ps. IsWalked c.args.batch ps h.links.before c.note.new.numbers.items) view
     (walk_on c.args.batch packs c.loop-reach.reach c.loop-reach.numbers.items walked place next
-    (seen fs h) shown h.before before c.note.new.numbers.items (search rules))
+    (seen fs h) shown h.links.before before c.note.new.numbers.items (search rules))

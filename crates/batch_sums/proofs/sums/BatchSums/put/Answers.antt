@@ -1,7 +1,6 @@
-use Rattle.std.proofs.Common.{◌≡◌, ◌+◌, ◌<◌, false, cond, not, eqb, [], ◌∷◌, ◌++◌, length, map, set, Some, refl, ap, sym, subst, ◌∙◌, arith}
+use Rattle.std.proofs.Common.{◌≡◌, ◌+◌, ◌<◌, cond, not, [], ◌∷◌, ◌++◌, length, map, set, Some, refl, ap, sym, subst, ◌∙◌, arith}
 use Rattle.std.specs.Prelude.{pos}
-use Rattle.std.specs.HashMap.{get}
-use Rattle.std.specs.List.{All, slice_get, list_any}
+use Rattle.std.specs.List.{All, slice_get}
 use Rattle.std.proofs.lemmas.List.{length-map, map-set}
 use Rattle.std.proofs.lemmas.List.Sums.{sum_by_push}
 use Rattle.std.proofs.lemmas.Option.{slice_get_read, slice_get_within, slice_get-map}
@@ -12,17 +11,34 @@ use Rattle.batch_sums.specs.Totals.{Sums}
 use Rattle.batch_sums.specs.declared.types.Pack.{Pack}
 use Rattle.pack_groups.specs.Groups.{faces, IsJudged}
 use Rattle.batch_sums.specs.Kept.{terms_of, seen}
-use Rattle.batch_sums.specs.Changes.{is_added}
+use Rattle.batch_sums.specs.Changes.{IsAbove}
 use Rattle.batch_sums.specs.Invariant.{IsRoomy, inside, outside}
 use Rattle.batch_sums.proofs.BatchTotals.{tared, bounded}
 use Rattle.batch_sums.proofs.OnePackMore.{joins_push}
 use Rattle.batch_sums.proofs.PileTallies.{tallied_in, few_lying, light_lying}
 use Rattle.batch_sums.proofs.PileMoves.{gross_at}
 use Rattle.batch_sums.proofs.GroupChanges.{room_for}
-use Rattle.batch_sums.proofs.Numbers.{added_is, not_counts}
+use Rattle.batch_sums.proofs.Numbers.{above_held, not_counts}
+use Rattle.batch_sums.proofs.Chained.{newest_of, begun, linked_behind}
 use Rattle.batch_sums.proofs.SoundLemmas.{set_same}
 use Rattle.batch_sums.proofs.ReadyGroups.{entered_from, room_from, chained_with, ready, kept_here, judged_here, few_here, settled_put, packs_put}
 use Rattle.batch_sums.proofs.sums.BatchSums.put.Goals as goal
+
+pub links_behind-links-requires-clause-newest : goal.links_behind-links-requires-clause-newest
+links_behind-links-requires-clause-newest c =
+    let sums = c.self.inside in
+    let settled = c.self.invariant.settled in
+    let bs = sums.batches.items in
+    let long : length bs ≡ length c.args.self.now.batches = sym (length-map bs terms_of)
+    ∙ ap (λ (s : Sums). length s.batches) c.self.view_is in
+    let within : c.args.batch < length bs = omega (arith, long, c.requires.batch) in
+    let first : slice_get bs c.args.batch ≡ Some c.index-home.result.now =
+    slice_get_read bs (length bs) c.args.batch c.index-home.result.now refl within
+    c.index-home.ensures in
+    let newest = newest_of bs (faces sums.groups.items) sums.packs.items settled.chained
+    c.args.batch c.index-home.result.now first in
+    begun bs (faces sums.groups.items) sums.packs.items settled.chained c.deref.result.now
+    c.deref.ensures.value settled.rising c.args.batch c.index-home.result.now.reach newest
 
 pub index_mut-group-requires : goal.index_mut-group-requires
 index_mut-group-requires c =
@@ -245,50 +261,50 @@ invariant_of-self c =
     let h : Held = record {
       number = c.args.pack;
       group = c.find_or_open-group.result;
-      before =
-          c.index-home.result.now.reach;
+      links = c.links_behind-links.result;
       gross = c.args.gross;
       pile = c.args.pile;
     } in
-    let pushed : c.push_pack.new.packs.items ≡ held ++ h ∷ [] = c.push_pack.ensures.items in
-    let none : list_any (λ other. eqb c.args.pack other) (map (λ (p : Held). p.number) held) ≡ false =
-    sym (added_is (faces gs) c.args.pack held)
-    ∙ ap (λ (s : Sums). is_added s.packs c.args.pack) c.self.view_is ∙ c.requires.new in
-    let ins : inside c.push_pack.new.packs.items ≡ inside held + cond (is_counted c.args.pile) 1 0 =
+    let pushed : c.push_reserved.new.self.items ≡ held ++ h ∷ [] = c.push_reserved.ensures.items in
+    let above = subst (λ ps. IsAbove ps c.args.pack) (ap (λ (s : Sums). s.packs) (sym c.self.view_is))
+    c.requires.new in
+    let newest = newest_of bs (faces gs) held settled.chained c.args.batch c.index-home.result.now
+    first in
+    let linked = linked_behind bs (faces gs) held settled.chained c.deref.result.now
+    c.deref.ensures.value settled.rising c.args.batch c.index-home.result.now.reach newest
+    c.links_behind-links.result c.links_behind-links.ensures in
+    let ins : inside c.push_reserved.new.self.items ≡ inside held + cond (is_counted c.args.pile) 1 0 =
     ap inside pushed ∙ sum_by_push (λ p. cond (is_counted p.pile) 1 0) held h in
-    let outs : outside c.push_pack.new.packs.items ≡ outside held
+    let outs : outside c.push_reserved.new.self.items ≡ outside held
     + cond (not (is_counted c.args.pile)) 1 0 = ap outside pushed
     ∙ sum_by_push (λ p. cond (not (is_counted p.pile)) 1 0) held h in
     record {
       settled = subst (λ hs. Rattle.batch_sums.specs.Invariant.IsSettled
           (set bs c.args.batch c.enter.new.self)
           (set c.find_or_open-group.new.groups.items c.find_or_open-group.result c.enter-2.new.self)
-          c.find_or_open-group.new.order hs (get eqb c.push_pack.new.places)) (sym pushed)
+          c.find_or_open-group.new.order hs) (sym pushed)
           (settled_put bs gs held c.find_or_open-group.new.groups.items c.find_or_open-group.result
           key c.args.tare done c.index_mut-group.result.now c.index_mut-group.ensures.value
           c.index_mut-batch.result.now home h refl c.requires.gross few c.enter.new.self
           (entered_from c.index_mut-batch.result.now c.len.result c.enter.new.self c.args.pile
           c.args.gross c.args.tare c.enter.ensures.entered) c.enter-2.new.self
           c.enter-2.ensures.grosses c.enter-2.ensures.face c.enter-2.ensures.judged
-          c.find_or_open-group.new.order (get eqb c.push_pack.new.places) (get eqb sums.places)
+          c.find_or_open-group.new.order
           c.find_or_open-group.ensures.balanced c.find_or_open-group.ensures.index settled.small
-          settled.numbered settled.apart none
-          (λ number. c.push_pack.ensures.places number ∙ ap (λ n. cond (eqb c.args.pack number) (Some n)
-          (get eqb sums.places number)) sums.packs.ok.0)
+          settled.rising (above_held (faces gs) c.args.pack held above)
           (chained_with bs gs held c.find_or_open-group.new.groups.items c.find_or_open-group.result
           key c.args.tare done c.index_mut-group.result.now c.index_mut-group.ensures.value
           c.index_mut-batch.result.now home h refl c.requires.gross few c.enter.new.self
           (entered_from c.index_mut-batch.result.now c.len.result c.enter.new.self c.args.pile
           c.args.gross c.args.tare c.enter.ensures.entered) c.enter-2.new.self
           c.enter-2.ensures.grosses c.enter-2.ensures.face c.enter-2.ensures.judged
-          c.index-home.result.now first refl
           (omega (
             arith,
             c.enter.ensures.reach,
             c.len.ensures,
-            c.push_pack.ensures.len,
+            c.push_reserved.ensures.len,
             sums.packs.ok.0,
-          )) settled.chained));
+          )) linked settled.chained));
       tallied = subst (λ hs. Rattle.batch_sums.specs.Kept.IsTallied c.enter-3.new.self hs) (sym pushed)
           (tallied_in sums.piles held c.self.invariant.tallied (held ++ h ∷ []) h
           (joins_push held h) c.enter-3.new.self c.enter-3.ensures.count
@@ -310,10 +326,9 @@ invariant_of-self c =
           room.packs,
           spare,
           c.requires.room,
-          c.push_pack.ensures.len,
-          c.push_pack.ensures.capacity,
+          c.push_reserved.ensures.len,
+          c.push_reserved.ensures.capacity,
         );
-        places = omega (arith, room.places, spare, c.requires.room, c.push_pack.ensures.spare);
         nodes = omega (
           arith,
           room.nodes,
@@ -332,7 +347,7 @@ invariant_of-self c =
           c.find_or_open-group.ensures.nodes,
         );
         few_batches = omega (arith, room.few_batches, spare, c.requires.room);
-        few_packs = omega (arith, room.few_packs, spare, c.requires.room, c.push_pack.ensures.len);
+        few_packs = omega (arith, room.few_packs, spare, c.requires.room, c.push_reserved.ensures.len);
       };
     }
 
@@ -372,12 +387,11 @@ returns-clause-packs c =
     let h : Held = record {
       number = c.args.pack;
       group = c.find_or_open-group.result;
-      before =
-          c.index-home.result.now.reach;
+      links = c.links_behind-links.result;
       gross = c.args.gross;
       pile = c.args.pile;
     } in
-    let pushed : c.push_pack.new.packs.items ≡ held ++ h ∷ [] = c.push_pack.ensures.items in
+    let pushed : c.push_reserved.new.self.items ≡ held ++ h ∷ [] = c.push_reserved.ensures.items in
     ap (λ hs. map
     (seen (faces (set c.find_or_open-group.new.groups.items c.find_or_open-group.result
     c.enter-2.new.self))) hs) pushed

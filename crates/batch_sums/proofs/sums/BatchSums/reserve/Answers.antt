@@ -38,12 +38,11 @@ invariant_of-self c =
     let room = c.self.invariant.room in
     let grown = c.reserve_places.ensures in
     kept_on c.self.inside _ c.self.invariant grown.batches.same grown.groups.same refl
-    grown.packs.same grown.same refl
+    grown.packs.same refl
     (record {
       batches = omega (arith, room.batches, grown.batches.long, grown.batches.room);
       groups = omega (arith, room.groups, grown.groups.long, grown.groups.room);
       packs = omega (arith, room.packs, grown.packs.long, grown.packs.room);
-      places = omega (arith, room.places, grown.places);
       nodes = room.nodes;
       back = room.back;
       order_nodes = room.order_nodes;
@@ -66,12 +65,11 @@ invariant_of-self-in_err-reserve_nodes c =
       c.len-2.ensures,
     ) in
     kept_on c.self.inside _ c.self.invariant grown.batches.same grown.groups.same refl
-    grown.packs.same grown.same refl
+    grown.packs.same refl
     (record {
       batches = omega (arith, room.batches, grown.batches.long, grown.batches.room);
       groups = omega (arith, room.groups, grown.groups.long, grown.groups.room);
       packs = omega (arith, room.packs, grown.packs.long, grown.packs.room);
-      places = omega (arith, room.places, grown.places);
       nodes = omega (arith, room.nodes, nodes.gross);
       back = nodes.back (inside held) within room.back;
       order_nodes = omega (arith, room.order_nodes, nodes.order);
@@ -94,12 +92,11 @@ invariant_of-self-2 c =
       c.len-2.ensures,
     ) in
     kept_on c.self.inside _ c.self.invariant grown.batches.same grown.groups.same refl
-    grown.packs.same grown.same refl
+    grown.packs.same refl
     (record {
       batches = omega (arith, grown.ok_batches);
       groups = omega (arith, grown.ok_groups);
       packs = omega (arith, grown.ok_packs);
-      places = omega (arith, grown.ok_places);
       nodes = omega (
         arith,
         nodes.ok_gross,

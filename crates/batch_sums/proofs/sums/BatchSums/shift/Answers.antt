@@ -1,17 +1,17 @@
-use Rattle.std.proofs.Common.{◌≡◌, eqb, true, map, set, refl, ap, sym, subst, ◌∙◌, arith, rules, length-set}
+use Rattle.std.proofs.Common.{◌≡◌, zero, suc, cond, not, true, None, map, set, refl, ap, sym, subst, ◌∙◌, arith, rules, length-set}
 use Rattle.std.specs.Prelude.{pos, ◌≤ℤ◌}
-use Rattle.std.specs.HashMap.{get}
 use Rattle.batch_sums.specs.declared.types.Held.{Held}
-use Rattle.batch_sums.proofs.NumberPlaces.{found_nowhere}
+use Rattle.batch_sums.proofs.NumberPlaces.{found_nowhere, rising_apart}
 use Rattle.std.proofs.lemmas.List.{map-set}
 use Rattle.hall_limits.specs.declared.TheConstants.{MAX_TARE}
 use Rattle.pack_groups.specs.Groups.{Face, faces, IsJudged}
+use Rattle.pack_groups.specs.Population.{is_counted}
 use Rattle.pack_groups.specs.Running.{IsEntered}
 use Rattle.batch_sums.specs.Kept.{terms_of}
 use Rattle.batch_sums.specs.Totals.{Sums}
 use Rattle.batch_sums.specs.Changes.{is_added}
 use Rattle.batch_sums.proofs.PileMoves.{joins, in_group, kept_group, batch_there, has_gross, at_batch, judged_before, covers, room_to, few_less, sound_moved, faces_moved, moved_is}
-use Rattle.batch_sums.proofs.Numbers.{added_is, number_at, inside_moved, outside_moved, settled_moved}
+use Rattle.batch_sums.proofs.Numbers.{added_is, number_at, found_by, not_counts, inside_moved, outside_moved, settled_moved}
 use Rattle.pack_groups.specs.declared.batch.Batch.{Batch}
 use Rattle.batch_sums.specs.Invariant.{reaches_of}
 use Rattle.batch_sums.proofs.OnePackMore.{joins_set}
@@ -30,7 +30,8 @@ unreachable-requires c =
     let among = added_is (faces sums.groups.items) c.args.pack sums.packs.items in
     found_nowhere c.args.pack (map (λ (p : Held). p.number) sums.packs.items)
     (sym among ∙ ap (λ (s : Sums). is_added s.packs c.args.pack) c.self.view_is ∙ there)
-    (sym (c.self.invariant.settled.numbered c.args.pack) ∙ sym c.in_default.ensures.index)
+    (sym (found_by c.deref.result.now sums.packs.items None c.args.pack c.deref.ensures.value
+    c.self.invariant.settled.rising c.in_default.ensures))
 
 pub index_mut-batch-requires : goal.index_mut-batch-requires
 index_mut-batch-requires c =
@@ -40,8 +41,8 @@ index_mut-batch-requires c =
     let gs = sums.groups.items in
     let held = sums.packs.items in
     let h = c.index-held.result.now in
-    let found = number_at (get eqb sums.places) held c.in-Some.place c.args.pack h settled.numbered
-    c.in-Some.ensures.index c.index-held.ensures in
+    let found = number_at c.deref.result.now held c.in-Some.place c.args.pack h
+    c.deref.ensures.value settled.rising c.in-Some.ensures c.index-held.ensures in
     let there = batch_there bs gs held settled.sound c.in-Some.place h c.index-held.ensures found.0
     c.index_mut-group.result.now c.index_mut-group.ensures.value in
     omega (arith, there, sums.batches.ok.0)
@@ -54,8 +55,8 @@ leave-requires-clause-tare c =
     let gs = sums.groups.items in
     let held = sums.packs.items in
     let h = c.index-held.result.now in
-    let found = number_at (get eqb sums.places) held c.in-Some.place c.args.pack h settled.numbered
-    c.in-Some.ensures.index c.index-held.ensures in
+    let found = number_at c.deref.result.now held c.in-Some.place c.args.pack h
+    c.deref.ensures.value settled.rising c.in-Some.ensures c.index-held.ensures in
     (kept_group bs gs held settled.sound c.in-Some.place h c.index-held.ensures found.0
     c.index_mut-group.result.now c.index_mut-group.ensures.value).tare
 
@@ -67,8 +68,8 @@ leave-requires-clause-covered c =
     let gs = sums.groups.items in
     let held = sums.packs.items in
     let h = c.index-held.result.now in
-    let found = number_at (get eqb sums.places) held c.in-Some.place c.args.pack h settled.numbered
-    c.in-Some.ensures.index c.index-held.ensures in
+    let found = number_at c.deref.result.now held c.in-Some.place c.args.pack h
+    c.deref.ensures.value settled.rising c.in-Some.ensures c.index-held.ensures in
     covers bs gs held settled.sound c.in-Some.place h c.index-held.ensures found.0
     c.index_mut-group.result.now c.index_mut-group.ensures.value c.index_mut-batch.result.now
     c.index_mut-batch.ensures.value
@@ -81,8 +82,8 @@ leave-requires-2-clause-tare c =
     let gs = sums.groups.items in
     let held = sums.packs.items in
     let h = c.index-held.result.now in
-    let found = number_at (get eqb sums.places) held c.in-Some.place c.args.pack h settled.numbered
-    c.in-Some.ensures.index c.index-held.ensures in
+    let found = number_at c.deref.result.now held c.in-Some.place c.args.pack h
+    c.deref.ensures.value settled.rising c.in-Some.ensures c.index-held.ensures in
     (kept_group bs gs held settled.sound c.in-Some.place h c.index-held.ensures found.0
     c.index_mut-group.result.now c.index_mut-group.ensures.value).tare
 
@@ -94,8 +95,8 @@ leave-requires-2-clause-contained c =
     let gs = sums.groups.items in
     let held = sums.packs.items in
     let h = c.index-held.result.now in
-    let found = number_at (get eqb sums.places) held c.in-Some.place c.args.pack h settled.numbered
-    c.in-Some.ensures.index c.index-held.ensures in
+    let found = number_at c.deref.result.now held c.in-Some.place c.args.pack h
+    c.deref.ensures.value settled.rising c.in-Some.ensures c.index-held.ensures in
     has_gross bs gs held settled.sound c.in-Some.place h c.index-held.ensures found.0
     c.index_mut-group.result.now c.index_mut-group.ensures.value
 
@@ -107,8 +108,8 @@ leave-requires-2-clause-judged c =
     let gs = sums.groups.items in
     let held = sums.packs.items in
     let h = c.index-held.result.now in
-    let found = number_at (get eqb sums.places) held c.in-Some.place c.args.pack h settled.numbered
-    c.in-Some.ensures.index c.index-held.ensures in
+    let found = number_at c.deref.result.now held c.in-Some.place c.args.pack h
+    c.deref.ensures.value settled.rising c.in-Some.ensures c.index-held.ensures in
     subst (λ l. IsJudged l c.index_mut-group.result.now) c.leave.ensures.entered.limits
     (judged_before bs gs held settled.sound c.in-Some.place h c.index-held.ensures found.0
     c.index_mut-group.result.now c.index_mut-group.ensures.value c.index_mut-batch.result.now
@@ -122,8 +123,8 @@ enter-requires-clause-tare c =
     let gs = sums.groups.items in
     let held = sums.packs.items in
     let h = c.index-held.result.now in
-    let found = number_at (get eqb sums.places) held c.in-Some.place c.args.pack h settled.numbered
-    c.in-Some.ensures.index c.index-held.ensures in
+    let found = number_at c.deref.result.now held c.in-Some.place c.args.pack h
+    c.deref.ensures.value settled.rising c.in-Some.ensures c.index-held.ensures in
     let tare : c.leave-2.new.self.tare ≡ c.index_mut-group.result.now.tare =
     ap (λ (f : Face). f.tare) c.leave-2.ensures.face in
     subst (λ t. pos t ≤ℤ MAX_TARE) (sym tare)
@@ -138,8 +139,8 @@ enter-requires-clause-room c =
     let gs = sums.groups.items in
     let held = sums.packs.items in
     let h = c.index-held.result.now in
-    let found = number_at (get eqb sums.places) held c.in-Some.place c.args.pack h settled.numbered
-    c.in-Some.ensures.index c.index-held.ensures in
+    let found = number_at c.deref.result.now held c.in-Some.place c.args.pack h
+    c.deref.ensures.value settled.rising c.in-Some.ensures c.index-held.ensures in
     room_to bs gs held settled.sound c.in-Some.place h c.index-held.ensures found.0
     c.index_mut-group.result.now c.index_mut-group.ensures.value c.index_mut-batch.result.now
     c.index_mut-batch.ensures.value c.leave.new.self c.leave.ensures.entered c.leave-2.new.self
@@ -153,8 +154,8 @@ enter-requires-2-clause-tare c =
     let gs = sums.groups.items in
     let held = sums.packs.items in
     let h = c.index-held.result.now in
-    let found = number_at (get eqb sums.places) held c.in-Some.place c.args.pack h settled.numbered
-    c.in-Some.ensures.index c.index-held.ensures in
+    let found = number_at c.deref.result.now held c.in-Some.place c.args.pack h
+    c.deref.ensures.value settled.rising c.in-Some.ensures c.index-held.ensures in
     let tare : c.leave-2.new.self.tare ≡ c.index_mut-group.result.now.tare =
     ap (λ (f : Face). f.tare) c.leave-2.ensures.face in
     subst (λ t. pos t ≤ℤ MAX_TARE) (sym tare)
@@ -169,8 +170,8 @@ enter-requires-2-clause-few c =
     let gs = sums.groups.items in
     let held = sums.packs.items in
     let h = c.index-held.result.now in
-    let found = number_at (get eqb sums.places) held c.in-Some.place c.args.pack h settled.numbered
-    c.in-Some.ensures.index c.index-held.ensures in
+    let found = number_at c.deref.result.now held c.in-Some.place c.args.pack h
+    c.deref.ensures.value settled.rising c.in-Some.ensures c.index-held.ensures in
     few_less bs gs held settled.sound c.in-Some.place h c.index-held.ensures found.0
     c.index_mut-group.result.now c.index_mut-group.ensures.value c.index_mut-batch.result.now
     c.index_mut-batch.ensures.value c.leave.new.self c.leave.ensures.entered c.leave-2.new.self
@@ -189,8 +190,8 @@ leave-requires-3-clause-count c =
     let gs = sums.groups.items in
     let held = sums.packs.items in
     let h = c.index-held.result.now in
-    let found = number_at (get eqb sums.places) held c.in-Some.place c.args.pack h settled.numbered
-    c.in-Some.ensures.index c.index-held.ensures in
+    let found = number_at c.deref.result.now held c.in-Some.place c.args.pack h
+    c.deref.ensures.value settled.rising c.in-Some.ensures c.index-held.ensures in
     let gone = joins bs gs held settled.sound c.in-Some.place h c.index-held.ensures found.0 in
     some_lying sums.piles held c.self.invariant.tallied (remove held c.in-Some.place) h gone
 
@@ -202,8 +203,8 @@ leave-requires-3-clause-gross c =
     let gs = sums.groups.items in
     let held = sums.packs.items in
     let h = c.index-held.result.now in
-    let found = number_at (get eqb sums.places) held c.in-Some.place c.args.pack h settled.numbered
-    c.in-Some.ensures.index c.index-held.ensures in
+    let found = number_at c.deref.result.now held c.in-Some.place c.args.pack h
+    c.deref.ensures.value settled.rising c.in-Some.ensures c.index-held.ensures in
     let gone = joins bs gs held settled.sound c.in-Some.place h c.index-held.ensures found.0 in
     heavy_lying sums.piles held c.self.invariant.tallied (remove held c.in-Some.place) h gone
 
@@ -215,8 +216,8 @@ enter-requires-3-clause-count c =
     let gs = sums.groups.items in
     let held = sums.packs.items in
     let h = c.index-held.result.now in
-    let found = number_at (get eqb sums.places) held c.in-Some.place c.args.pack h settled.numbered
-    c.in-Some.ensures.index c.index-held.ensures in
+    let found = number_at c.deref.result.now held c.in-Some.place c.args.pack h
+    c.deref.ensures.value settled.rising c.in-Some.ensures c.index-held.ensures in
     let gone = joins bs gs held settled.sound c.in-Some.place h c.index-held.ensures found.0 in
     let left = tallied_out sums.piles held c.self.invariant.tallied
     (remove held c.in-Some.place) h gone c.leave-3.new.self c.leave-3.ensures.count
@@ -236,8 +237,8 @@ enter-requires-3-clause-gross c =
     let gs = sums.groups.items in
     let held = sums.packs.items in
     let h = c.index-held.result.now in
-    let found = number_at (get eqb sums.places) held c.in-Some.place c.args.pack h settled.numbered
-    c.in-Some.ensures.index c.index-held.ensures in
+    let found = number_at c.deref.result.now held c.in-Some.place c.args.pack h
+    c.deref.ensures.value settled.rising c.in-Some.ensures c.index-held.ensures in
     let gone = joins bs gs held settled.sound c.in-Some.place h c.index-held.ensures found.0 in
     let left = tallied_out sums.piles held c.self.invariant.tallied
     (remove held c.in-Some.place) h gone c.leave-3.new.self c.leave-3.ensures.count
@@ -257,8 +258,8 @@ invariant_of-self c =
     let gs = sums.groups.items in
     let held = sums.packs.items in
     let h = c.index-held.result.now in
-    let found = number_at (get eqb sums.places) held c.in-Some.place c.args.pack h settled.numbered
-    c.in-Some.ensures.index c.index-held.ensures in
+    let found = number_at c.deref.result.now held c.in-Some.place c.args.pack h
+    c.deref.ensures.value settled.rising c.in-Some.ensures c.index-held.ensures in
     let tare : c.leave-2.new.self.tare ≡ c.index_mut-group.result.now.tare =
     ap (λ (f : Face). f.tare) c.leave-2.ensures.face in
     let enters = subst (λ t. IsEntered c.leave.new.self c.enter.new.self c.args.to h.gross t) tare
@@ -297,7 +298,7 @@ invariant_of-self c =
           (Rattle.batch_sums.proofs.PileMoves.in_pile h c.args.to) found.0) c.enter-3.new.self
           c.enter-3.ensures.count c.enter-3.ensures.gross;
       settled = settled_moved held c.in-Some.place h c.args.to c.index-held.ensures found.0 bs _ gs
-          _ sums.order (get eqb sums.places) settled reaches sound face
+          _ sums.order settled reaches sound face
           (length-set gs h.group c.enter-2.new.self);
       room =
           let room = c.self.invariant.room in
@@ -307,7 +308,6 @@ invariant_of-self c =
             batches = room.batches;
             groups = room.groups;
             packs = room.packs;
-            places = room.places;
             nodes = omega (arith, room.nodes, outs, c.leave-2.ensures.nodes, c.enter-2.ensures.nodes);
             back = omega (
               arith,
@@ -332,8 +332,8 @@ returns-clause-packs c =
     let gs = sums.groups.items in
     let held = sums.packs.items in
     let h = c.index-held.result.now in
-    let found = number_at (get eqb sums.places) held c.in-Some.place c.args.pack h settled.numbered
-    c.in-Some.ensures.index c.index-held.ensures in
+    let found = number_at c.deref.result.now held c.in-Some.place c.args.pack h
+    c.deref.ensures.value settled.rising c.in-Some.ensures c.index-held.ensures in
     let tare : c.leave-2.new.self.tare ≡ c.index_mut-group.result.now.tare =
     ap (λ (f : Face). f.tare) c.leave-2.ensures.face in
     let enters = subst (λ t. IsEntered c.leave.new.self c.enter.new.self c.args.to h.gross t) tare
@@ -348,7 +348,7 @@ returns-clause-packs c =
     (ap (λ fs. map (Rattle.batch_sums.specs.Kept.seen fs)
     (set held c.in-Some.place (Rattle.batch_sums.proofs.PileMoves.in_pile h c.args.to))) face
     ∙ moved_is (faces gs) c.args.pack c.args.to held c.in-Some.place h
-    (settled.apart c.args.pack) found.0 c.index-held.ensures found.1)
+    (rising_apart c.args.pack held settled.rising) found.0 c.index-held.ensures found.1)
 
 pub returns-clause-batches : goal.returns-clause-batches
 returns-clause-batches c =
@@ -358,8 +358,8 @@ returns-clause-batches c =
     let gs = sums.groups.items in
     let held = sums.packs.items in
     let h = c.index-held.result.now in
-    let found = number_at (get eqb sums.places) held c.in-Some.place c.args.pack h settled.numbered
-    c.in-Some.ensures.index c.index-held.ensures in
+    let found = number_at c.deref.result.now held c.in-Some.place c.args.pack h
+    c.deref.ensures.value settled.rising c.in-Some.ensures c.index-held.ensures in
     let there = at_batch bs gs held settled.sound c.in-Some.place h c.index-held.ensures found.0
     c.index_mut-group.result.now c.index_mut-group.ensures.value c.index_mut-batch.result.now
     c.index_mut-batch.ensures.value in
@@ -376,3 +376,65 @@ returns-clause-batches c =
     ∙ set_same (map terms_of bs) c.index_mut-group.result.now.key.batch
     (terms_of c.index_mut-batch.result.now)
     (slice_get-map terms_of bs c.index_mut-group.result.now.key.batch ∙ rw there refl))
+
+pub index_mut-group-requires : goal.index_mut-group-requires
+index_mut-group-requires c =
+    let sums = c.self.inside in
+    let settled = c.self.invariant.settled in
+    let held = sums.packs.items in
+    let h = c.index-held.result.now in
+    let found = number_at c.deref.result.now held c.in-Some.place c.args.pack h
+    c.deref.ensures.value settled.rising c.in-Some.ensures c.index-held.ensures in
+    omega (
+      arith,
+      in_group sums.batches.items sums.groups.items held settled.sound c.in-Some.place h
+          c.index-held.ensures found.0,
+      sums.groups.ok.0,
+    )
+
+pub leave-requires-2-clause-room : goal.leave-requires-2-clause-room
+leave-requires-2-clause-room c counts =
+    let sums = c.self.inside in
+    let settled = c.self.invariant.settled in
+    let held = sums.packs.items in
+    let h = c.index-held.result.now in
+    let found = number_at c.deref.result.now held c.in-Some.place c.args.pack h
+    c.deref.ensures.value settled.rising c.in-Some.ensures c.index-held.ensures in
+    let gone = joins sums.batches.items sums.groups.items held settled.sound c.in-Some.place h
+    c.index-held.ensures found.0 in
+    let one : cond (is_counted h.pile) (suc zero) zero ≡ suc zero =
+    ap (λ b. cond b (suc zero) zero) counts in
+    omega (
+      arith,
+      gone.sum (λ p. cond (is_counted p.pile) 1 0),
+      one,
+      c.self.invariant.room.back,
+    )
+
+pub enter-requires-2-clause-spare : goal.enter-requires-2-clause-spare
+enter-requires-2-clause-spare c =
+    let sums = c.self.inside in
+    let settled = c.self.invariant.settled in
+    let held = sums.packs.items in
+    let h = c.index-held.result.now in
+    let found = number_at c.deref.result.now held c.in-Some.place c.args.pack h
+    c.deref.ensures.value settled.rising c.in-Some.ensures c.index-held.ensures in
+    let gone = joins sums.batches.items sums.groups.items held settled.sound c.in-Some.place h
+    c.index-held.ensures found.0 in
+    omega (
+      arith,
+      gone.sum (λ p. cond (not (is_counted p.pile)) 1 0),
+      not_counts (is_counted h.pile),
+      c.leave-2.ensures.nodes,
+      c.self.invariant.room.nodes,
+    )
+
+pub index_mut-requires : goal.index_mut-requires
+index_mut-requires c =
+    let sums = c.self.inside in
+    let settled = c.self.invariant.settled in
+    let held = sums.packs.items in
+    let h = c.index-held.result.now in
+    let found = number_at c.deref.result.now held c.in-Some.place c.args.pack h
+    c.deref.ensures.value settled.rising c.in-Some.ensures c.index-held.ensures in
+    omega (arith, found.0, sums.packs.ok.0)

@@ -1,11 +1,11 @@
-use Rattle.batch_sums_tests.proofs.PackRanges.{next_is_new, kept_added}
+use Rattle.batch_sums_tests.proofs.PackRanges.{next_is_above, kept_added}
 use Rattle.std.proofs.Common.{◌+◌, arith, length, refl, ap, sym, subst, ◌∙◌}
 use Rattle.std.proofs.lemmas.Int.{ints}
 use Rattle.batch_sums_tests.specs.Halls.{IsKept}
 use Rattle.batch_sums_tests.proofs.hall.Hall.add.Goals as goal
 
 pub add-requires-clause-new : goal.add-requires-clause-new
-add-requires-clause-new c = next_is_new c.self.inside.next c.self.inside.day c.self.inside.tare c.self.inside.sums.packs c.self.invariant.1.fits
+add-requires-clause-new c = next_is_above c.self.inside.next c.self.inside.day c.self.inside.tare c.self.inside.sums.packs c.self.invariant.1.fits
 
 pub invariant_of-self-2 : goal.invariant_of-self-2
 invariant_of-self-2 c = (

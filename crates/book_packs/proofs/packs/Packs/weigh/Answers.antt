@@ -1,10 +1,11 @@
 use Rattle.std.proofs.Common.{rules, ℤ, ◌<◌, ◌-◌, List, length, slice_set, FitsSigned, w32, w64, to_z, of_z, refl, sym, subst, ap, arith, ◌∙◌}
 use Rattle.std.proofs.lemmas.Int.{to_z-of_z}
 use Rattle.hall_limits.specs.declared.TheConstants.{MAX_GROSS, MAX_TARE, MAX_DAY}
+use Rattle.batch_sums.specs.declared.types.Pack.{Pack}
 use Rattle.batch_sums.specs.Totals.{Terms}
-use Rattle.batch_sums.specs.Changes.{is_added, IsUpTo, IsTareOf}
+use Rattle.batch_sums.specs.Changes.{IsAbove, IsUpTo, IsTareOf}
 use Rattle.book_packs.specs.Stand.{Standing, IsPacksOf}
-use Rattle.book_packs.proofs.LaneActs.{weigh_bounds, weigh-push, settled_before, batch_below, day_up, gross_up, tare_up, same_tare, is_new}
+use Rattle.book_packs.proofs.LaneActs.{weigh_bounds, weigh-push, settled_before, batch_below, day_up, gross_up, tare_up, same_tare, is_above}
 use Rattle.book_packs.proofs.packs.Packs.weigh.Goals as goal
 
 -- src/packs.rt:137:13
@@ -19,10 +20,11 @@ add-added-requires-clause-batch c =
 pub add-added-requires-clause-new : goal.add-added-requires-clause-new
 add-added-requires-clause-new c =
     let next = c.requires.next in
-    ap (λ some. is_added some c.args.weighing.now.number)
-    (c.settle.ensures.packs ∙ settled_before next.entries next.entry c.args.weighing.now next.is
-    _ (subst (IsPacksOf next.entries) (sym c.self.view_is) next.stands))
-    ∙ is_new next.entries next.entry c.args.weighing.now next.is
+    let packs = c.settle.ensures.packs
+    ∙ settled_before next.entries next.entry c.args.weighing.now next.is _
+    (subst (IsPacksOf next.entries) (sym c.self.view_is) next.stands) in
+    subst (λ (some : List Pack). IsAbove some c.args.weighing.now.number) (sym packs)
+    (is_above next.entries next.entry c.args.weighing.now next.is)
 
 -- src/packs.rt:137:13
 pub add-added-requires-clause-day : goal.add-added-requires-clause-day

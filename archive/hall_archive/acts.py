@@ -1,0 +1,81 @@
+"""Acts with their persons, reasons and hours, over the books of a hall. The hour of an act of a desk
+is the front's; of each other that of its row."""
+
+from typing import Any
+
+from hall_archive.questions import PAGE
+from hall_archive.spans import EVER, FIRST, Behind, Span, Spans, Time
+
+# How far, in ms, the hour of the front may lie beside that of the row.
+MARGIN = 60_000
+# The words of a question, and the columns that they have to be in.
+COLUMNS = {
+    "batch": "b.name",
+    "product": "a.product",
+    "kind": "a.kind",
+    "person": "p.name",
+}
+# A page of acts first: the hours of their rows are looked up for them alone.
+ACTS = """
+    SELECT f.row, f.kind, f.batch, f.product, f.line, f.person, f.reason,
+    coalesce(f.low, h.low) AS low, coalesce(f.high, h.high) AS high
+    FROM (
+        SELECT a.row, a.kind, b.name AS batch, a.product, a.line, p.name AS person, p.reason,
+        p.low, p.high FROM act a
+        LEFT JOIN batch b ON b.book = a.book AND b.row = a.batch
+        LEFT JOIN person p ON p.book = a.book AND p.row = a.row
+        WHERE %s ORDER BY a.row LIMIT :page
+    ) AS f
+    LEFT JOIN answer h ON h.book = :book AND h.upto = (
+        SELECT min(upto) FROM answer WHERE book = :book AND upto >= f.row)
+    ORDER BY f.row"""
+
+
+class Acts(Spans):
+    """Questions for acts."""
+
+    def acts(
+        self,
+        hall: str,
+        book: str = "",
+        given: dict[str, str] | None = None,
+        time: Time = EVER,
+        behind: Behind = FIRST,
+    ) -> list[dict[str, Any]]:
+        """At most PAGE acts, in order of books and rows; `given` are words of COLUMNS."""
+        found: list[dict[str, Any]] = []
+        for span in self.spans(hall, book, widened(time), behind):
+            while len(found) < PAGE and span.after < span.upto:
+                page = self.page(span, given or {})
+                found += [one for one in page if is_within(one, time)]
+                span = span._replace(after=page[-1]["row"] if len(page) == PAGE else span.upto)
+        return found[:PAGE]
+
+    def all_acts(self, hall: str, book: str, given: dict[str, str]) -> list[dict[str, Any]]:
+        """All acts of a book, page by page."""
+        found = page = self.acts(hall, book, given)
+        while len(page) == PAGE:
+            page = self.acts(hall, book, given, behind=Behind("", page[-1]["row"]))
+            found = found + page
+        return found
+
+    def page(self, span: Span, given: dict[str, str]) -> list[dict[str, Any]]:
+        terms = ["a.book = :book", "a.row > :after", "a.row <= :upto"]
+        values: dict[str, Any] = {"book": span.book, "after": span.after, "upto": span.upto}
+        for word, value in given.items():
+            if value:
+                terms.append(f"{COLUMNS[word]} = :{word}")
+                values[word] = value
+        found = self.ask(ACTS % " AND ".join(terms), **values, page=PAGE)
+        return [{"book": span.name} | dict(row._mapping) for row in found]
+
+
+def widened(time: Time) -> Time:
+    low = None if time.low is None else time.low - MARGIN
+    return Time(low, None if time.high is None else time.high + MARGIN)
+
+
+def is_within(act: dict[str, Any], time: Time) -> bool:
+    return (time.low is None or (act["high"] or 0) >= time.low) and (
+        time.high is None or (act["low"] or 0) < time.high
+    )
