@@ -10,13 +10,14 @@ usage: hall-archive [--settings PATH] COMMAND
     story BOOK BATCH      prints the acts of a batch: when, who, what and why
     check BOOK            compares the register and each sheet with those of a book at rest
     verify BOOK           compares the witness with the book, line by line
+    stamp BOOK            has the newest line of the witness stamped by an authority (RFC 3161)
     serve                 answers the pages, for its service
     read                  answers one question of standard input, for hall-archive-read
     openapi               prints the description of what `serve` answers
 
 BOOK is a name of the settings, as 2026-12, or HALL/NAME where several halls have one of it.
-Status 1: something differs; 2: the words or the settings are faulty; 3: the database or the program
-`hall` didn't answer; 5: the book isn't the one that was followed so far."""
+Status 1: something differs; 2: the words or the settings are faulty; 3: the database, the program
+`hall` or the authority didn't answer; 5: the book isn't the one that was followed so far."""
 
 import argparse
 import logging
@@ -68,7 +69,7 @@ def by_database(name: str) -> Command:
 
 
 OF_A_BATCH = ("sheet", "story")
-OF_A_BOOK = ("follow", "take", "register", "check", "verify", *OF_A_BATCH)
+OF_A_BOOK = ("follow", "take", "register", "check", "verify", "stamp", *OF_A_BATCH)
 COMMANDS: dict[str, Command] = {
     "read": read_one,
     **{name: by_database(name) for name in ("migrate", "serve", "openapi", *OF_A_BOOK)},

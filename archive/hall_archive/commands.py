@@ -10,8 +10,9 @@ import time
 from collections.abc import Iterator
 from typing import Any
 
-from hall_archive import checks, nets, store, witness
+from hall_archive import checks, nets, stamps, store, witness
 from hall_archive.door import Door
+from hall_archive.appending import whole_lines
 from hall_archive.following import COMMIT_ROWS, Follower, OtherBook, Page, Spool, Unkept
 from hall_archive.questions import Books
 from hall_archive.reading import Reader, at_rest
@@ -33,6 +34,8 @@ from hall_archive.witness import Witness, utc_text
 log = logging.getLogger("hall-archive")
 # The status of a follower that ended by a fault of its own: it is begun again.
 ENDED_EARLY = 3
+# The status where the authority gave no stamp.
+UNSTAMPED = 3
 
 
 def book_of(settings: Settings, word: str) -> BookSettings:
@@ -302,6 +305,7 @@ def verify(settings: Settings, word: str, _: str) -> int:
         body = witness.read_shipment(io.BytesIO(shipped))
         due = witness.without_newest(lines, body) if reader.in_use else lines
         audits = witness.check(due, body)
+        held = stamps.check(path, lines, settings.authority) if settings.authority else 0
     except witness.Differs as fault:
         print(f"hall-archive: {book.name}: {fault}", file=sys.stderr)
         return 1
@@ -309,7 +313,28 @@ def verify(settings: Settings, word: str, _: str) -> int:
         raise BadSettings(f"{path}: {fault.strerror}") from fault
     if len(due) < len(lines):
         print(f"{len(lines) - len(due)} lines wait: the book is in use, and its newest row unread")
+    if held:
+        print(f"{held} stamps hold")
     print(f"{len(due)} lines and {audits} fingerprints hold")
+    return 0
+
+
+def stamp(settings: Settings, word: str, _: str) -> int:
+    """Has the newest line of the witness stamped by the authority of the settings."""
+    if not settings.stamps or not settings.authority:
+        raise BadSettings("the settings name no `stamps` and `authority`")
+    path = settings.witness(book_of(settings, word))
+    try:
+        lines = witness.read_lines(whole_lines(path))
+        if not lines:
+            raise BadSettings(f"{path} has no line yet")
+        print(stamps.stamp_newest(path, lines, settings.stamps, settings.authority))
+    except witness.Differs as fault:
+        print(f"hall-archive: {path}: {fault}", file=sys.stderr)
+        return 1
+    except stamps.NotStamped as fault:
+        print(f"hall-archive: line {len(lines)} isn't stamped: {fault}", file=sys.stderr)
+        return UNSTAMPED
     return 0
 
 

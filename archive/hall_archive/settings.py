@@ -7,6 +7,8 @@
     program = "/usr/bin/hall"            #   read the books itself, the program and their folder
     books = "/var/lib/hall"
     port = 8490                          # where the pages ask, on 127.0.0.1
+    stamps = "https://stamps.example/"   # who stamps the witness by RFC 3161; may be absent
+    authority = "/etc/hall/stamps.pem"   #   and the certificate that those stamps are under
 
     [days]                               # may be absent: until evidence is too old
     scale = 1
@@ -32,6 +34,7 @@ LAST_PORT = 65_535
 # Days until evidence is too old, where the settings don't say.
 DAYS = {"scale": 1, "tare": 90, "density": 30, "uncertainty": 365}
 KEYS = {"database", "folder", "front", "read", "program", "books", "port", "days", "book"}
+KEYS |= {"stamps", "authority"}
 
 
 class BadSettings(ValueError):
@@ -58,6 +61,8 @@ class Settings:
     program: str
     books: str
     port: int
+    stamps: str
+    authority: str
     days: dict[str, int]
     followed: tuple[BookSettings, ...]
 
@@ -131,6 +136,8 @@ def read_settings(text: str) -> Settings:
         program=text_of(table, "program", ""),
         books=text_of(table, "books", "/var/lib/hall"),
         port=number_of(table, "port", PORT, LAST_PORT),
+        stamps=text_of(table, "stamps", ""),
+        authority=text_of(table, "authority", ""),
         days={kind: number_of(days, kind, most, 36_500) for kind, most in DAYS.items()},
         followed=followed,
     )
