@@ -155,21 +155,25 @@ fn book_before(alloc: Global, given: &Given) -> Option<MemoryCaller> {
     Some(hall)
 }
 
+// The act of a row.
+fn act_of(row: Row) -> Option<Act> {
+    Some(match row {
+        Row::Start(name) => Act::StartLane {
+            lane: 1,
+            batch: Name::new(name)?,
+        },
+        Row::Weigh(gross, prior) => Act::Weigh {
+            lane: 1,
+            gross,
+            prior,
+        },
+        Row::Stop(prior) => Act::StopLane { lane: 1, prior },
+    })
+}
+
 // Whether an act is that of a row.
 fn is_row(act: &Act, row: Row) -> bool {
-    match (act, row) {
-        (Act::StartLane { lane: 1, batch }, Row::Start(name)) => batch.as_bytes() == name,
-        (
-            Act::Weigh {
-                lane: 1,
-                gross,
-                prior,
-            },
-            Row::Weigh(mass, said),
-        ) => *gross == mass && *prior == said,
-        (Act::StopLane { lane: 1, prior }, Row::Stop(said)) => *prior == said,
-        _ => false,
-    }
+    act_of(row) == Some(*act)
 }
 
 // Whether the rows of a book behind so many are these, each brought by lane 1, and no more.
