@@ -8,6 +8,7 @@ import sys
 from front_room import mount_room
 from screen_changes import run_changes
 from screen_day import run_day
+from screen_evidence import run_evidence
 from screen_load import run_load
 from screen_pages import run_boards, run_pages
 from screen_signs import run_signs
@@ -21,6 +22,7 @@ PARTS = {
     "sizes": run_sizes,
     "load": run_load,
     "changes": run_changes,
+    "evidence": run_evidence,
 }
 
 

@@ -11,6 +11,8 @@
 #   sizes   bytes that each page loads, what the key Tab comes by, no layout shift as packs come
 #   load    the board with 16 lanes at 20 packs a second each, an hour of it, 10 000 packs drawn
 #   changes a lane changes its batch by the page, the desk and a typed scan, and is refused one
+#   evidence  evidence is entered, stands on a sheet, and is an alarm when it is overdue; it needs
+#           what tests/archive.sh needs
 #
 # usage: tests/screen.sh [PICTURES [PART..]]    HALL names the program; screenshots are left in
 #                                               PICTURES; without a PART all are done
@@ -34,8 +36,11 @@ fi
 mkdir -p "$pictures"
 pictures=$(realpath "$pictures")
 chmod 755 "$room"
-[ $# -gt 0 ] || set -- day signs pages boards sizes load changes
+[ $# -gt 0 ] || set -- day signs pages boards sizes load changes evidence
 for part; do
+    if [ "$part" = evidence ]; then
+        need python3-sqlalchemy python3-alembic python3-fastapi python3-uvicorn
+    fi
     mkdir "$room/$part"
     # the Python for which Debian's selenium is
     unshare --mount --net --pid --fork --kill-child --mount-proc timeout 1800 \
