@@ -23,7 +23,7 @@ from hall_archive.reading import Program  # noqa: E402
 from hall_archive.rows import ROW_BYTES  # noqa: E402
 from hall_archive.store import Store  # noqa: E402
 
-STRETCHES, SECONDS = 4, 15.0
+SETTLING, STRETCHES, SECONDS = 4, 4, 15.0
 # Seconds between two looks into the archive.
 LOOK = 0.005
 # Rows of a minute.
@@ -87,6 +87,9 @@ class Bench:
         self.work.rounds.append(Round("B0", now(), []))
         self.work.begin()
         self.timed(f"{rows} rows caught up with", rows)
+        # what was weighed meanwhile is caught up with, and the first fingerprint taken
+        for _ in range(SETTLING):
+            self.stretch()
         looks = Looks(self.kept)
         looks.start()
         for _ in range(STRETCHES):
