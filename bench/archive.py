@@ -1,8 +1,8 @@
-"""Run by bench/archive.sh: FOLDER ROWS. Prints seconds of the clock and of this process's
-processor; what the server of PostgreSQL takes is in the clock alone."""
+"""Run by bench/archive.sh: FOLDER ROWS BOOKS. A book of so many rows is taken in, its register is
+printed, and questions are asked over as many books like it. Prints seconds of the clock, and of a
+processor, with what the server of PostgreSQL takes: where others take the machine's these count."""
 
 import os
-import random
 import sys
 import time
 from collections.abc import Callable
@@ -11,47 +11,19 @@ from typing import Any
 HERE = os.path.dirname(os.path.realpath(__file__))
 sys.path[:0] = [f"{HERE}/../archive", f"{HERE}/../tests"]
 
+from archive_books import copy_books, make_book, put_hours  # noqa: E402
+from archive_asked import ask_all  # noqa: E402
 from archive_room import Postgres  # noqa: E402
 
-from hall_archive import nets, store, witness  # noqa: E402
-from hall_archive.following import COMMIT_ROWS, Follower, Page  # noqa: E402
-from hall_archive.rows import bytes_of  # noqa: E402
+from hall_archive import store, witness  # noqa: E402
+from hall_archive.following import Follower, Page  # noqa: E402
+from hall_archive.rows import PAGE_ROWS, bytes_of  # noqa: E402
 from hall_archive.search import Search  # noqa: E402
 from hall_archive.store import Store  # noqa: E402
 
-BATCH = 9_000
-# Packs a second of the book, by its hours.
-RATE = 140
-
-
-def make_book(rows: int) -> list[str]:
-    """A book of batches of 9 000 packs on four lanes, all but the last closed."""
-    chance = random.Random(1)
-    lines = [
-        "ok\tscript\tday 2025-03-03",
-        "ok\tscript\tproduct rice250 250.000",
-        "ok\tscript\ttare rice250 2025-03-03 10.000",
-    ]
-    batch = 0
-    while len(lines) < rows:
-        batch += 1
-        lines.append(f"ok\tdoor 1\t@101 {batch} open B{batch} rice250")
-        lines += [f"ok\tlane {lane}\tstart {lane} B{batch}" for lane in (1, 2, 3, 4)]
-        for place in range(BATCH):
-            lane, gross = place % 4 + 1, 262_000 + chance.randrange(-5_000, 5_000)
-            prior = "opened" if place >= 4 else "none"
-            weight = f"{gross // 1000}.{gross % 1000:03}"
-            lines.append(f"pass\tlane {lane}\tweigh {lane} {weight} {prior}")
-        if len(lines) < rows:
-            lines += [f"ok\tlane {lane}\tstop {lane} opened" for lane in (1, 2, 3, 4)]
-            lines.append(f"ok\tdoor 2\t@102 {3 * batch - 2} end B{batch}")
-            lines.append(f"ok\tdoor 2\t@102 {3 * batch - 1} draw B{batch} keep {batch}")
-            lines.append(f"released\tdoor 2\t@102 {3 * batch} close B{batch}")
-    return [f"{row} {line}\n" for row, line in enumerate(lines[:rows], 1)]
-
 
 class Text:
-    """A book as a source of rows."""
+    """A book as a source of rows, which come as a door has them."""
 
     is_new = False
 
@@ -59,51 +31,66 @@ class Text:
         self.lines = lines
 
     def ask(self, after: int) -> Page:
-        lines = self.lines[after : after + COMMIT_ROWS]
-        return Page("".join(lines), after + len(lines))
+        return Page("".join(self.lines[after : after + PAGE_ROWS]), len(self.lines))
 
     def close(self) -> None:
         pass
 
 
-def timed(said: str, work: Callable[[], Any]) -> Any:
-    began, used = time.monotonic(), time.process_time()
-    found = work()
-    took, used = time.monotonic() - began, time.process_time() - used
-    print(f"archive: {said}: {took:.2f} s, {used:.2f} s of a processor", flush=True)
-    return found
+class Costs:
+    """Times work by the clock and by the processor, with that of a server where there is one."""
+
+    def __init__(self, kind: str, server: Postgres | None) -> None:
+        self.kind, self.server = kind, server
+
+    def used(self) -> float:
+        return time.process_time() + (self.server.seconds() if self.server else 0.0)
+
+    def timed(self, said: str, work: Callable[[], Any]) -> None:
+        began, used = time.monotonic(), self.used()
+        work()
+        took, used = time.monotonic() - began, self.used() - used
+        print(
+            f"archive: {self.kind}, {said}: {took:.2f} s, {used:.2f} of a processor; load"
+            f" {os.getloadavg()[0]:.1f}",
+            flush=True,
+        )
 
 
-def load(follower: Follower) -> None:
+def take(follower: Follower) -> None:
     while follower.step()[0]:
         pass
     if follower.upto > follower.waiting.after:
         follower.keep()
 
 
-def measure(kind: str, url: str, lines: list[str]) -> None:
+def measure(
+    kind: str, url: str, lines: list[str], books: int, server: Postgres | None = None
+) -> None:
     engine = store.open_engine(url, True)
     store.migrate(engine)
     kept, source = Store(engine, "main", "day"), Text(lines)
-    timed(f"{kind}, {len(lines)} rows taken in", lambda: load(Follower("day", source, kept)))
-    kept.analyze()
-    timed(f"{kind}, begun anew", lambda: Follower("day", source, kept))
-    search = Search(store.open_engine(url))
-    timed(f"{kind}, register", lambda: sum(1 for _ in search.register(kept.book)))
-    running = witness.Running()
-    timed(f"{kind}, rows hashed", lambda: running.add(map(bytes_of, kept.entries())))
-    timed(f"{kind}, a batch's sheet", lambda: nets.sheet(search.batch(kept.book, "B3")))
-    timed(f"{kind}, a pack's story", lambda: search.story("main", "day", len(lines) // 2))
-    timed(f"{kind}, a batch by name", lambda: search.batches("main", "", {"name": "B3"}))
-    timed(f"{kind}, 1 000 packs of a batch", lambda: search.packs("main", "day", batch="B3"))
-    timed(f"{kind}, all rejects", lambda: search.packs("main", "day", signal="reject"))
-    timed(f"{kind}, sums of the book", lambda: search.totals("main", "day"))
+    costs = Costs(kind, server)
+    costs.timed(f"{len(lines)} rows taken in", lambda: take(Follower("day", source, kept)))
+    put_hours(kept, len(lines))
     size = sizes(kind, url, engine)
     print(f"archive: {kind}, {size / len(lines):.1f} bytes a row", flush=True)
+    costs.timed("begun anew", lambda: Follower("day", source, kept))
+    search = Search(store.open_engine(url))
+    costs.timed("register", lambda: sum(1 for _ in search.register(kept.book)))
+    running = witness.Running()
+    costs.timed("rows hashed", lambda: running.add(map(bytes_of, kept.entries())))
+    costs.timed(f"{books} books of it", lambda: copy_books(kept, books))
+    ask_all(kind, search, len(lines), costs.used)
 
 
 def sizes(kind: str, url: str, engine: Any) -> int:
+    """Bytes on the disk, behind a checkpoint."""
     if kind == "SQLite":
+        with engine.connect() as link:
+            link.exec_driver_sql("ROLLBACK")
+            link.exec_driver_sql("PRAGMA wal_checkpoint(TRUNCATE)")
+            link.exec_driver_sql("BEGIN")
         return os.path.getsize(url.removeprefix("sqlite:///"))
     with engine.connect() as link:
         found = link.exec_driver_sql("SELECT pg_database_size('archive')").scalar()
@@ -112,12 +99,13 @@ def sizes(kind: str, url: str, engine: Any) -> int:
 
 
 def main() -> None:
-    folder, rows = sys.argv[1], int(sys.argv[2])
+    folder, rows, books = sys.argv[1], int(sys.argv[2]), int(sys.argv[3])
     lines = make_book(rows)
-    measure("SQLite", f"sqlite:///{folder}/archive.db", lines)
+    measure("SQLite", f"sqlite:///{folder}/archive.db", lines, books)
+    os.remove(f"{folder}/archive.db")
     postgres = Postgres(folder)
     try:
-        measure("PostgreSQL", postgres.url, lines)
+        measure("PostgreSQL", postgres.url, lines, books, postgres)
     finally:
         postgres.kill()
 

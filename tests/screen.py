@@ -9,6 +9,7 @@ from front_room import mount_room
 from screen_changes import run_changes
 from screen_chart import run_chart
 from screen_day import run_day
+from screen_evidence import run_evidence
 from screen_load import run_load
 from screen_pages import run_boards, run_pages
 from screen_signs import run_signs
@@ -23,6 +24,7 @@ PARTS = {
     "load": run_load,
     "chart": run_chart,
     "changes": run_changes,
+    "evidence": run_evidence,
 }
 
 

@@ -13,6 +13,8 @@
 #   chart   a batch of 10 000 packs through the front: from the click to its chart, and to its
 #           sheet, at most a second each; a chart that grows asks for what is new alone
 #   changes a lane changes its batch by the page, the desk and a typed scan, and is refused one
+#   evidence  evidence is entered, stands on a sheet, and is an alarm when it is overdue; it needs
+#           what tests/archive.sh needs
 #
 # usage: tests/screen.sh [PICTURES [PART..]]    HALL names the program; screenshots are left in
 #                                               PICTURES; without a PART all are done
@@ -36,8 +38,11 @@ fi
 mkdir -p "$pictures"
 pictures=$(realpath "$pictures")
 chmod 755 "$room"
-[ $# -gt 0 ] || set -- day signs pages boards sizes load chart changes
+[ $# -gt 0 ] || set -- day signs pages boards sizes load chart changes evidence
 for part; do
+    if [ "$part" = evidence ]; then
+        need python3-sqlalchemy python3-alembic python3-fastapi python3-uvicorn
+    fi
     mkdir "$room/$part"
     # the Python for which Debian's selenium is
     unshare --mount --net --pid --fork --kill-child --mount-proc timeout 1800 \

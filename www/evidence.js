@@ -8,7 +8,7 @@ import { deskChoice } from "./mydesk.js";
 import { dueWords } from "./evidenceshown.js";
 import { grams, spellDay } from "./evidencewords.js";
 import { isReady, makeSaid, sendAct, tell } from "./acts.js";
-import { make, notice, table, tag } from "./page.js";
+import { loadStyles, make, notice, table, tag } from "./page.js";
 import { Missing, reach } from "./office.js";
 import { soonPage } from "./soon.js";
 
@@ -114,6 +114,7 @@ function choice(forms) {
 }
 
 export async function build(section) {
+  await loadStyles("forms.css");
   const first = await ask("newest").catch(() => null);
   if (!first) return void soonPage("evidence").build(section);
   const [newest, due] = [make("div", { className: "scroll" }), make("div", { role: "status" })];

@@ -21,14 +21,16 @@ ACTS = """
     coalesce(f.low, h.low) AS low, coalesce(f.high, h.high) AS high
     FROM (
         SELECT a.row, a.kind, b.name AS batch, a.product, a.line, p.name AS person, p.reason,
-        p.low, p.high FROM act a
+        p.low, p.high FROM {acts}
         LEFT JOIN batch b ON b.book = a.book AND b.row = a.batch
-        LEFT JOIN person p ON p.book = a.book AND p.row = a.row
-        WHERE %s ORDER BY a.row LIMIT :page
+        WHERE {terms} ORDER BY a.row LIMIT :page
     ) AS f
     LEFT JOIN answer h ON h.book = :book AND h.upto = (
         SELECT min(upto) FROM answer WHERE book = :book AND upto >= f.row)
     ORDER BY f.row"""
+# Where acts come from: all of them, or those of a person.
+ALL = "act a LEFT JOIN person p ON p.book = a.book AND p.row = a.row"
+OF_ONE = "person p JOIN act a ON a.book = p.book AND a.row = p.row"
 
 
 class Acts(Spans):
@@ -66,7 +68,12 @@ class Acts(Spans):
             if value:
                 terms.append(f"{COLUMNS[word]} = :{word}")
                 values[word] = value
-        found = self.ask(ACTS % " AND ".join(terms), **values, page=PAGE)
+        acts = ALL
+        if "person" in values:
+            acts = OF_ONE
+            terms += ["p.book = :book", "p.row > :after", "p.row <= :upto"]
+        statement = ACTS.format(acts=acts, terms=" AND ".join(terms))
+        found = self.ask(statement, **values, page=PAGE)
         return [{"book": span.name} | dict(row._mapping) for row in found]
 
 

@@ -176,6 +176,22 @@ def answer_of(fields: list[Any]) -> Answer:
     return Answer(upto, low, high, kind, Clock(*stretch))
 
 
+@dataclass
+class Touched:
+    """A batch of which rows came: its first weighing before them, or 0, its last, and its closing."""
+
+    batch: nets.Batch
+    first: int
+    last: int
+    closed: int | None = None
+
+    def row(self) -> BatchRow:
+        """How it now stands."""
+        batch, first = self.batch, self.first or ends_of(self.batch)[0]
+        now = (batch.row, batch.name, batch.goods.name, batch.state, batch.verdict)
+        return BatchRow(*now, first, self.last, self.closed)
+
+
 class Follower:
     """Follows one book into an archive."""
 
@@ -212,7 +228,7 @@ class Follower:
             self.spool.clear()
         self.spooled = 0
         self.tried = 0.0
-        self.touched: dict[str, BatchRow] = {}
+        self.touched: dict[str, Touched] = {}
         self.waiting = self.new_taken()
         self.source.close()
 
@@ -299,30 +315,29 @@ class Follower:
         if isinstance(act, Weigh):
             pack = self.book.packs[entry.row]
             self.waiting.packs.append(pack_row(entry, act, pack))
-            self.touch(pack.batch, entry.row)
+            self.touch(pack.batch).last = entry.row
             return
         batch = batch_of(self.book, entry)
         self.waiting.acts.append(act_row(entry, batch))
         if batch and isinstance(act, Open | End | Draw | Close):
-            self.touch(batch, None, entry.row if isinstance(act, Close) else None)
-        if isinstance(act, Close):
-            self.waiting.closed.append(act.batch)
+            touched = self.touch(batch)
+            if isinstance(act, Close):
+                touched.closed = entry.row
+                self.waiting.closed.append(act.batch)
 
-    def touch(self, batch: nets.Batch, weighed: int | None, closed: int | None = None) -> None:
-        """Notes how a batch now stands."""
-        before = self.touched.get(batch.name)
-        first, last = (before.first, before.last) if before else ends_of(batch)
-        if weighed:
-            first, last = first or weighed, weighed
-        now = (batch.row, batch.name, batch.goods.name, batch.state, batch.verdict)
-        self.touched[batch.name] = BatchRow(*now, first, last, closed)
+    def touch(self, batch: nets.Batch) -> Touched:
+        """Notes that a batch has to be kept as it then stands."""
+        found = self.touched.get(batch.name)
+        if found is None:
+            found = self.touched[batch.name] = Touched(batch, *ends_of(batch))
+        return found
 
     def keep(self) -> Taken | None:
         """Hands what waits to the archive; where that doesn't answer its hours go to a file, and
         it is tried again a second later."""
         taken = self.waiting
         taken.asked, taken.clock = self.hours.asked, self.hours.clock
-        taken.batches = list(self.touched.values())
+        taken.batches = [touched.row() for touched in self.touched.values()]
         try:
             self.archive.keep(taken)
         except Unkept:

@@ -153,7 +153,7 @@ person = Table(
     Column("high", BigInteger, nullable=False),
     PrimaryKeyConstraint("book", "row", name="person_key"),
 )
-Index("person_name", person.c.name, person.c.high)
+Index("person_acts", person.c.book, person.c.name, person.c.row)
 
 # lines of the front that name a row which is another act, or none
 refused_line = Table(

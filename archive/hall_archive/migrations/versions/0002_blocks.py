@@ -1,4 +1,4 @@
-"""Sums of whole blocks of rows, and indexes by signal, by pile and by the clock of an hour."""
+"""Sums of whole blocks of rows, and indexes by signal, by pile, by person and by the clock of an hour."""
 
 import sqlalchemy as sa
 from alembic import op
@@ -38,4 +38,6 @@ def upgrade() -> None:
     )
     op.create_index("move_pile", "move", ["book", "pile", "pack"])
     op.drop_index("answer_high", "answer")
+    op.drop_index("person_name", "person")
+    op.create_index("person_acts", "person", ["book", "name", "row"])
     op.create_index("answer_clock", "answer", ["book", "clock", "high"])
