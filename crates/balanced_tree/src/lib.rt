@@ -7,5 +7,6 @@ mod balance;
 mod edits;
 mod tree;
 
+pub use balance::{fork, rotate};
 pub use edits::{insert, remove};
 pub use tree::{Node, Tree};

@@ -1,15 +1,15 @@
-ghost use Rattle.std.specs.Prelude.{◌≡◌, ℕ, Bool, ◌+◌, ◌^◌, ◌<◌, ◌≤◌, ◌==◌, ◌&&◌, [], length, nat_lt, count_by, if◌then◌else◌, Some, slice_get};
+ghost use Rattle.std.specs.Prelude.{◌≡◌, ℕ, Bool, ◌+◌, ◌^◌, ◌<◌, ◌≤◌, ◌==◌, ◌&&◌, [], length, nat_lt, count_by, if◌then◌else◌, Some, slice_get, insert as inserted};
 ghost use Rattle.balanced_tree.specs.Trees.{items, height_of, IsBalanced};
 ghost use Rattle.pack_groups.specs.Rising.{IsRising, mass_of, HasOneMore};
 
 use crate::steps::Steps;
 use annex_tables::MAX_POPULATION;
-use balanced_tree::{Node, Tree, insert, remove};
+use balanced_tree::{Node, Tree, fork, remove, rotate};
 use std::marker::{Brand, Model};
 use std::mem;
 use std::sync::ledger::{Blank, Ledger};
 
-/// The gross of a pack in mg. Only `Grosses::less` looks at it.
+/// The gross of a pack in mg. Where looks are counted, `Grosses::less` alone looks at it.
 #[derive(Clone, Copy, Default)]
 pub struct Gross {
     mass: u32,
@@ -81,15 +81,13 @@ impl Grosses {
         self.count_below(gross, &mut steps)
     }
 
-    /// Puts a gross in mg among the others, into a spare node.
+    /// Puts a gross in mg among the others, into a spare node, in one way down.
     pub fn insert(&mut self, gross: u32, mut node: Box<Node<Gross>>)
         requires few { length self.old + 1 < 2 ^ 32 }
         ensures { HasOneMore gross self.old self.new }
     {
-        let place = self.place::<Brand>(gross, Blank::new(1));
         node.item = Gross { mass: gross };
-        let tree = mem::replace(&mut self.tree, Tree::Leaf);
-        self.tree = insert(tree, place, node);
+        put(&mut self.tree, gross, node);
     }
 
     /// Takes a gross in mg out of the others, and gives its node back.
@@ -122,4 +120,41 @@ fn count_lighter<L: Ledger>(tree: &Tree<Gross>, limit: u32, steps: &mut Steps<L>
     } else {
         count_lighter(&root.left, limit, steps)
     }
+}
+
+// Puts a gross before the first that isn't lighter: a node whose sides keep their heights stays
+// where it is.
+#[tactic(auto, using(crate::proofs::Descents::putting, balanced_tree::proofs::Heights::lower_than_47))]
+fn put(tree: &mut Tree<Gross>, gross: u32, node: Box<Node<Gross>>)
+    requires balanced { IsBalanced tree.old }
+    requires rising { IsRising mass_of (items tree.old) }
+    requires few { length (items tree.old) + 1 < 2 ^ 32 }
+    ensures balanced { IsBalanced tree.new }
+    ensures items { items tree.new ≡ inserted (items tree.old)
+        (count_by (λ other. nat_lt (mass_of other) gross) (items tree.old)) node.value.item }
+    ensures not_lower { height_of tree.old ≤ height_of tree.new }
+    ensures at_most_one_higher { height_of tree.new ≤ height_of tree.old + 1 }
+{
+    let Tree::Fork {
+        height,
+        count,
+        root,
+    } = tree
+    else {
+        *tree = fork(node, Tree::Leaf, Tree::Leaf);
+        return;
+    };
+    let root = &mut **root;
+    if root.item.mass < gross {
+        put(&mut root.right, gross, node);
+    } else {
+        put(&mut root.left, gross, node);
+    }
+    let (left, right) = (root.left.height(), root.right.height());
+    if left <= right + 1 && right <= left + 1 {
+        *height = left.max(right) + 1;
+        *count += 1;
+        return;
+    }
+    rotate(tree);
 }
