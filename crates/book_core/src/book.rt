@@ -209,6 +209,27 @@ impl Book {
         Ok(Ready::new(number, *entry))
     }
 
+    // Takes room for a lawful entry, draws what its act draws, and enters it. It makes no copy that
+    // waits to be entered, and no reply: a book that is opened has nobody to answer.
+    fn add(&mut self, entry: &Entry, seen: &LaneNow) -> Result<(), NoMemory>
+        requires seen { IsSeen self.old.entries entry.now.act seen.now }
+        requires lawful { IsLawful self.old.entries entry.now }
+        requires empty { self.old.pending ≡ None }
+        ensures ok { OnOk result (self.new.entries ≡ self.old.entries ++ entry.now ∷ []) }
+        ensures err { OnErr result (self.new.entries ≡ self.old.entries) }
+        ensures sure { is_weighing entry.now.act ≡ true → 0 < self.old.spare → IsOk result }
+        ensures pending { self.new.pending ≡ None }
+        ensures limit { self.new.limit ≡ self.old.limit }
+        ensures spare { self.old.spare + length self.old.entries
+            ≤ self.new.spare + length self.new.entries }
+        ensures legal { IsLegal self.new.entries }
+    {
+        self.state.reserve(1)?;
+        let drawn = self.state.draw(self.alloc, &entry.act)?;
+        self.state.enter(entry, seen, drawn);
+        Ok(())
+    }
+
     // Whether an entry is lawful behind the list.
     fn is_lawful(&self, entry: &Entry, seen: &LaneNow) -> bool
         requires { IsSeen self.now.entries entry.now.act seen.now }
@@ -273,9 +294,15 @@ impl Book {
             ≤ self.new.spare + length self.new.entries }
         ensures legal { IsLegal self.new.entries }
     {
-        let ready = self.admit(&entry)?;
-        let _ = self.enter(ready);
-        Ok(())
+        self.pending = None;
+        let seen = self.state.seen(&entry.act);
+        if !self.is_lawful(&entry, &seen) {
+            return Err(ReplayError::Unlawful);
+        }
+        match self.add(&entry, &seen) {
+            Ok(()) => Ok(()),
+            Err(_) => Err(ReplayError::NoMemory),
+        }
     }
 
     /// Enters what was made ready last, and answers it, whatever the book's limit is. It can't
