@@ -3,7 +3,7 @@ ghost use Rattle.book_words.specs.Views as told;
 
 use crate::packs::view_packs;
 use crate::rows::view_rows;
-use crate::views::{summarize, view_lane, view_pack, view_sample, view_sheet};
+use crate::views::{summarize, terms_of, view_lane, view_pack, view_sample, view_sheet};
 use book_verdicts::{NoMemory, State, lane_number};
 use book_words::{Name, Question, Refusal, Reply};
 use std::alloc::Global;
@@ -88,10 +88,10 @@ fn tell_packs(
     ensures { IfOk result (λ answer. answer
         ≡ told.question_told state.now.entries (Question.Packs batch.now after)) }
 {
-    if state.product(batch).is_none() {
+    let Some(terms) = terms_of(state, batch) else {
         return Ok(Err(Refusal::BatchUnknown));
-    }
-    let view = view_packs(alloc, state, batch, after)?;
+    };
+    let view = view_packs(alloc, state, &terms, after)?;
     Ok(Ok(Reply::PacksAre(view)))
 }
 

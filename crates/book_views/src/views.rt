@@ -1,20 +1,22 @@
-ghost use Rattle.std.specs.Prelude.{◌≡◌, true, is_none, is_some, option_map, IfOk};
+ghost use Rattle.std.specs.Prelude.{◌≡◌, ◌≤ℤ◌, pos, List, true, Some, is_none, is_some, option_map, IfOk, IfSome};
+ghost use Rattle.hall_limits.specs.declared.TheConstants.{MAX_GROSS, MAX_TARE};
+ghost use Rattle.book_words.specs.declared.act.Entry.{Entry};
+ghost use Rattle.book_verdicts.specs.Known.{known_pack};
 ghost use Rattle.annex_tables.specs.Errors.{IsNominal, limits_of};
 ghost use Rattle.book_words.specs.Acts as acts;
 ghost use Rattle.book_words.specs.Readings.{reading_of};
 ghost use Rattle.book_words.specs.Samples.{sample_of};
-ghost use Rattle.book_words.specs.Classes.{class_in_batch};
 ghost use Rattle.book_words.specs.Verdicts.{second_packs};
 ghost use Rattle.book_words.specs.Views as told;
 ghost use Rattle.book_words.specs.Answers.{IsLegal};
 ghost use Rattle.book_verdicts.specs.Told.{totals_told};
 ghost use Rattle.book_verdicts.specs.Prepared.{IsSampleOf};
-ghost use Rattle.book_views.specs.Terms.{HasTerms};
+ghost use Rattle.book_views.specs.Terms.{HasTerms, AreTermsOf};
 
 use crate::tallies::add_up;
-use annex_tables::limits;
+use annex_tables::{Limits, limits};
 use batch_sums::Totals;
-use book_verdicts::{NoMemory, Sample, State, count_first, count_second, verdict_of};
+use book_verdicts::{KnownPack, NoMemory, Sample, State, count_first, count_second, verdict_of};
 use book_words::{
     BatchState, LaneView, Name, PackView, SampleView, Sheet, SummaryView, TestView, Unit, Verdict,
 };
@@ -149,15 +151,50 @@ pub fn view_sheet(state: &State, batch: &Name) -> Option<Sheet>
     Some(fill_sheet(state, batch, product, nominal, unit, density, now))
 }
 
-// The class of a net in mg in a batch that is there.
-fn class_in(state: &State, batch: &Name, net: i64) -> Class
-    requires known { is_some (acts.product_of state.now.entries batch.now) ≡ true }
-    ensures { result ≡ class_in_batch state.now.entries batch.now net }
+/// What is told alike of each pack of a batch: the batch, its product, and the limits of its nets.
+#[derive(Clone, Copy)]
+pub struct Terms {
+    pub batch: Name,
+    pub product: Name,
+    pub limits: Limits,
+}
+
+/// The terms of a batch; `None` exactly where there is no such batch.
+pub fn terms_of(state: &State, batch: &Name) -> Option<Terms>
+    ensures batch { IfSome result (λ terms. terms.batch ≡ batch.now) }
+    ensures terms { IfSome result (AreTermsOf state.now.entries) }
+    ensures there { is_none result ≡ is_none (acts.product_of state.now.entries batch.now) }
 {
-    let Some(limits) = state.limits(batch) else {
-        unreachable!()
-    };
-    class(net, &limits)
+    let product = state.product(batch)?;
+    let limits = state.limits(batch)?;
+    Some(Terms {
+        batch: *batch,
+        product,
+        limits,
+    })
+}
+
+// The view of a pack of which this is known, by the terms of its batch.
+fn view_known(number: u32, known: &KnownPack, terms: &Terms) -> PackView
+    requires gross { (pos 0 ≤ℤ known.now.gross) × (known.now.gross ≤ℤ MAX_GROSS) }
+    requires tare { (pos 0 ≤ℤ known.now.tare) × (known.now.tare ≤ℤ MAX_TARE) }
+    ensures { (entries : List Entry) → known_pack entries number ≡ Some known.now
+        → known.now.batch ≡ terms.now.batch → AreTermsOf entries terms.now
+        → Some result ≡ told.pack_view entries number }
+{
+    let net = known.gross - known.tare;
+    PackView {
+        pack: number,
+        batch: known.batch,
+        product: terms.product,
+        lane: known.lane,
+        day: known.day,
+        gross: known.gross,
+        net,
+        class: class(net, &terms.limits),
+        signal: known.signal,
+        pile: known.pile,
+    }
 }
 
 /// The view of the pack with a number; `None` exactly where there is no such pack.
@@ -166,20 +203,22 @@ pub fn view_pack(state: &State, number: u32) -> Option<PackView>
     ensures there { is_none result ≡ is_none (reading_of state.now.entries number) }
 {
     let known = state.pack(number)?;
-    let product = state.product(&known.batch)?;
-    let net = known.gross - known.tare;
-    Some(PackView {
-        pack: number,
-        batch: known.batch,
-        product,
-        lane: known.lane,
-        day: known.day,
-        gross: known.gross,
-        net,
-        class: class_in(state, &known.batch, net),
-        signal: known.signal,
-        pile: known.pile,
-    })
+    let terms = terms_of(state, &known.batch)?;
+    Some(view_known(number, &known, &terms))
+}
+
+/// The same, where the terms of a batch are known that may be that of the pack: names are looked for
+/// only where they aren't.
+pub fn view_by_terms(state: &State, terms: &Terms, number: u32) -> Option<PackView>
+    requires { AreTermsOf state.now.entries terms.now }
+    ensures { result ≡ told.pack_view state.now.entries number }
+{
+    let known = state.pack(number)?;
+    if known.batch.is(&terms.batch) {
+        Some(view_known(number, &known, terms))
+    } else {
+        view_pack(state, number)
+    }
 }
 
 /// The view of a lane: its batch, and its unsettled reading.
