@@ -49,7 +49,7 @@ impl Backing {
     }
 
     /// Makes all that was put stable.
-    pub(crate) fn sync<R: Files<File = File>>(&mut self, rt: &R) -> io::Result<()> {
+    pub(crate) fn sync<R: Files<File = File> + AllocGlobal>(&mut self, rt: &R) -> io::Result<()> {
         match self {
             Backing::Named(file) => file.sync(rt),
             Backing::Memory(disk) => or_full(disk.sync()),

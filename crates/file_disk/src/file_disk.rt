@@ -215,7 +215,7 @@ fn shut<T>() -> io::Result<T>
     Err(ErrorKind::NotConnected.into())
 }
 
-impl<R: Files<File = File> + Eprint + Drop> Disk for FileDisk<R> {
+impl<R: Files<File = File> + AllocGlobal + Eprint + Drop> Disk for FileDisk<R> {
     ghost use Rattle.std.specs.Prelude.{◌≡◌, ◌+◌, ◌<◌, ◌≤◌, false, length, IsErr, IfOk};
     ghost use Rattle.device_facts.specs.Count.{CountsFault};
     ghost use Rattle.disk_core.specs.Untold.{untold, NoImage, NoMoment, told_nothing};

@@ -3,16 +3,22 @@ use crate::room::{begins_row, counted, end_of_piece, sets_mark, write_zeros};
 use crate::size_limit::{greatest_size, too_large};
 use crate::transfer::{fill, settle};
 use std::alloc::Global;
-use std::fs::{File, metadata};
+use std::fs::{File, canonicalize, metadata, read_link};
 use std::io;
-use std::io::ErrorKind;
+use std::io::{ErrorKind, Seek, SeekFrom};
+use std::os::fd::AsRawFd;
 use std::os::unix::fs::{FileExt, MetadataExt};
 use std::rt::Files;
 
 /// An open file, and the path that it was opened by. It may have zeros behind the bytes that count,
 /// as room for the rows to come; a file that is let go has none that this hall wrote.
+///
+/// For a row the system isn't asked for the file's `metadata`: that asks for its times, and where
+/// they were asked for, Linux 6.13 stamps the next write anew, so that its sync takes twice as long.
 pub(crate) struct NamedFile {
     path: String,
+    // Where the system says what the open file is called.
+    link: String,
     file: File,
     device: u64,
     number: u64,
@@ -29,6 +35,8 @@ pub(crate) struct NamedFile {
     // Whether what was written last only begins a row, so that nothing is acknowledged by it.
     begun_alone: bool,
     greatest_size: u64,
+    // The size with which the file's number was compared last.
+    compared: u64,
 }
 
 // By hand, since the room goes with it.
@@ -39,6 +47,7 @@ impl Drop for NamedFile {
         }
         let Self {
             path: _,
+            link: _,
             file: _,
             device: _,
             number: _,
@@ -49,6 +58,7 @@ impl Drop for NamedFile {
             last: _,
             begun_alone: _,
             greatest_size: _,
+            compared: _,
         } = self;
     }
 }
@@ -63,8 +73,12 @@ impl NamedFile {
         let Ok(path) = format!(in alloc; "{path}") else {
             return Err(ErrorKind::OutOfMemory.into());
         };
+        let Ok(link) = format!(in alloc; "/proc/self/fd/{}", file.as_raw_fd()) else {
+            return Err(ErrorKind::OutOfMemory.into());
+        };
         Ok(NamedFile {
             path,
+            link,
             file,
             device: found.dev(),
             number: found.ino(),
@@ -75,6 +89,7 @@ impl NamedFile {
             last: None,
             begun_alone: false,
             greatest_size: greatest_size(),
+            compared: 0,
         })
     }
 
@@ -174,7 +189,7 @@ impl NamedFile {
     /// Makes all that was put stable. It fails where somebody else has made the file longer or
     /// shorter. Where more was put than the beginning of a row it fails too where the path names
     /// another file by now, or none, and where somebody else has written over the last row.
-    pub(crate) fn sync<R: Files<File = File>>(&mut self, rt: &R) -> io::Result<()> {
+    pub(crate) fn sync<R: Files<File = File> + AllocGlobal>(&mut self, rt: &R) -> io::Result<()> {
         let done = settle(&self.file);
         if done.is_err() {
             self.last = None;
@@ -192,7 +207,7 @@ impl NamedFile {
 
     // Fails where the file has another size than this hall left.
     fn has_its_size(&self) -> io::Result<()> {
-        if self.file.metadata()?.len() == self.size {
+        if size_of(&self.file)? == self.size {
             Ok(())
         } else {
             Err(changed())
@@ -208,14 +223,31 @@ impl NamedFile {
         }
     }
 
-    // Whether the path names this file, or a folder on it goes by another name.
-    fn is_named<R: Files<File = File>>(&self, rt: &R) -> io::Result<bool> {
+    // Whether the path names this file, or a folder on it goes by another name. The file's number is
+    // compared once a piece of room, and where the names don't settle it.
+    fn is_named<R: Files<File = File> + AllocGlobal>(&mut self, rt: &R) -> io::Result<bool> {
+        if self.compared == self.size && self.is_called_so(rt) {
+            return Ok(true);
+        }
+        self.compared = self.size;
         match metadata(rt, self.path.as_str()) {
             Ok(found) => Ok(found.dev() == self.device && found.ino() == self.number),
             Err(error) if error.kind() == ErrorKind::NotFound => {
                 Ok(self.file.metadata()?.nlink() > 0 && self.lacks_folder(rt))
             }
             Err(_) => Ok(true),
+        }
+    }
+
+    // Whether the path leads to where the system says that the open file is. It doesn't where either
+    // can't be told, as without memory for the names.
+    fn is_called_so<R: Files<File = File> + AllocGlobal>(&self, rt: &R) -> bool {
+        match (
+            canonicalize(rt, self.path.as_str()),
+            read_link(rt, self.link.as_str()),
+        ) {
+            (Ok(led), Ok(called)) => led == called,
+            _ => false,
         }
     }
 
@@ -226,6 +258,12 @@ impl NamedFile {
             None => false,
         }
     }
+}
+
+// How many bytes a file has.
+fn size_of(file: &File) -> io::Result<u64> {
+    let mut file = file;
+    file.seek(SeekFrom::End(0))
 }
 
 // Why a file isn't written that isn't as this hall left it.
