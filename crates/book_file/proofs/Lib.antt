@@ -1,3 +1,4 @@
 mod Beginnings
 mod Counts
 mod Running
+pub mod Forms
