@@ -5,3 +5,4 @@ pub mod FieldTexts
 pub mod FieldValues
 pub mod LinesBack
 pub mod RoundTrip
+pub mod WholePapers

@@ -141,13 +141,13 @@ parts_of test (a ∷ before) x more all =
 -- ---- the parts of a paper
 
 -- the tares, the packs and both samples, as they are read
-abbrev at_tares : goods.Goods → List DatedTare → Draft
+abbrev pub at_tares : goods.Goods → List DatedTare → Draft
 at_tares g ts = record no_lines { stage = stage.Tares; goods = Some g; tares = ts }
 
-abbrev at_packs : goods.Goods → List DatedTare → List packs.Pack → Draft
+abbrev pub at_packs : goods.Goods → List DatedTare → List packs.Pack → Draft
 at_packs g ts ps = record no_lines { stage = stage.Packs; goods = Some g; tares = ts; packs = ps }
 
-abbrev at_first : goods.Goods → List DatedTare → List packs.Pack → draws.Draw → List Pick → Draft
+abbrev pub at_first : goods.Goods → List DatedTare → List packs.Pack → draws.Draw → List Pick → Draft
 at_first g ts ps draw first =
     record no_lines {
       stage = stage.First;
@@ -158,7 +158,7 @@ at_first g ts ps draw first =
       first = first;
     }
 
-abbrev at_second : goods.Goods → List DatedTare → List packs.Pack → draws.Draw → List Pick → ℕ
+abbrev pub at_second : goods.Goods → List DatedTare → List packs.Pack → draws.Draw → List Pick → ℕ
     → List Pick → Draft
 at_second g ts ps draw first word second =
     record no_lines {
@@ -260,7 +260,7 @@ second_on g ts ps draw first word before (p ∷ picks) range right =
 
 -- ---- the whole
 
-abbrev end_with : goods.Goods → List DatedTare → List packs.Pack → Option draws.Draw → List Pick
+abbrev pub end_with : goods.Goods → List DatedTare → List packs.Pack → Option draws.Draw → List Pick
     → Option ℕ
     → List Pick → verdicts.Verdict → Draft
 end_with g ts ps draw first word second v =
@@ -293,7 +293,7 @@ behind_tares ps draw first word second v =
     ++ (map (λ d. line.Mode d) (option_to_list draw) ++ behind_mode first word second v)
 
 -- the data of a paper by its parts
-abbrev paper_with : goods.Goods → List DatedTare → List packs.Pack → Option draws.Draw → List Pick
+abbrev pub paper_with : goods.Goods → List DatedTare → List packs.Pack → Option draws.Draw → List Pick
     → Option ℕ
     → List Pick → verdicts.Verdict → PaperData
 paper_with g ts ps draw first word second v =

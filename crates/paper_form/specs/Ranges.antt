@@ -1,7 +1,7 @@
 -- The limits of what a paper says.
-use Rattle.std.specs.Prelude.{◌≡◌, ℕ, ◌+◌, ◌≤◌, ◌^◌, Bool, true, ◌==◌, nat_lt, List, [], length, map, unsigned_abs, is_none, is_some}
+use Rattle.std.specs.Prelude.{◌≡◌, ℕ, ◌+◌, ◌≤◌, ◌^◌, Bool, true, ◌==◌, nat_lt, List, [], ◌∷◌, ◌++◌, length, map, unsigned_abs, Some, is_none, is_some}
 use Rattle.std.specs.Option.{option_map_or}
-use Rattle.std.specs.List.{list_all}
+use Rattle.std.specs.List.{list_all, slice_split}
 use Rattle.std.specs.List.Sorted.{IsStrictlyIncreasing}
 use Rattle.annex_tables.specs.declared.TheConstants.{MAX_POPULATION}
 use Rattle.pack_judge.specs.declared.tares.DatedTare.{DatedTare}
@@ -10,7 +10,8 @@ use Rattle.paper_form.specs.declared.types.Pack as packs
 use Rattle.paper_form.specs.declared.types.Pick.{Pick}
 use Rattle.paper_form.specs.declared.types.Line as lines
 use Rattle.paper_form.specs.declared.types.Line.TheVariants as line
-use Rattle.paper_form.specs.Papers.{PaperData, are_goods_in_range, is_tare_in_range, is_pack_in_range, is_pick_in_range, is_verdict_said}
+use Rattle.paper_form.specs.Papers.{PaperData, is_line_end, lines_of, are_goods_in_range, is_tare_in_range, is_pack_in_range, is_pick_in_range, is_verdict_said}
+use Rattle.paper_form.specs.Lines.{line_of}
 use Rattle.paper_form.specs.Form.{Draft, is_pick_right}
 
 -- the days of some tares, and the numbers of some packs
@@ -82,6 +83,13 @@ pub record IsPaper (paper : PaperData) : Type 0 where
   pub undrawn : is_none paper.draw ≡ true → (paper.first ≡ []) × (is_none paper.second_word ≡ true)
   pub no_second : is_none paper.second_word ≡ true → paper.second ≡ []
   pub verdict : is_verdict_said paper.verdict ≡ true
+
+-- a text says just the lines of a paper, in order: what stands up to each LF is read as one of them,
+-- and nothing stands behind the last LF
+pub record SaysLines (bytes : List ℕ) (paper : PaperData) : Type 0 where
+  pub texts : List (List ℕ)
+  pub split : slice_split is_line_end bytes ≡ texts ++ [] ∷ []
+  pub lines : map line_of texts ≡ map (λ line. Some line) (lines_of paper)
 
 -- a paper has no more lines than it may have bytes
 abbrev pub IsShort : PaperData → Type 0

@@ -2,7 +2,7 @@ ghost use Rattle.std.specs.Prelude.{◌≡◌, ◌≤◌, Ok, IfOk, IfErr, IfSom
 ghost use Rattle.paper_form.specs.Form.{no_lines, whole_of, ends_with, paper_in};
 ghost use Rattle.paper_form.specs.Drafts.{draft_of, data_of, size_of, IsUnread};
 ghost use Rattle.paper_form.specs.Papers.{PaperData, paper_text};
-ghost use Rattle.paper_form.specs.Ranges.{IsDraftListed, IsListed, IsPaper, IsShort};
+ghost use Rattle.paper_form.specs.Ranges.{IsDraftListed, IsListed, IsPaper, IsShort, SaysLines};
 
 use crate::fields::split_line;
 use crate::reading::{Paper, Reading, take_text};
@@ -68,14 +68,16 @@ fn end(reading: Reading, line: u32, rest: &[u8]) -> Result<Paper, PaperFault>
     }
 }
 
-/// Reads a paper line by line, up to the first line that isn't the next one of a paper. The text of
-/// the data of a paper is read as these data.
+/// Reads a paper line by line, up to the first line that isn't the next one of a paper. What is read
+/// is a paper, whose lines are those of the text, and the text of a paper is read as its data.
 #[tactic(auto, using(crate::proofs::RoundTrip::paper_read))]
 pub fn read_paper(alloc: Global, bytes: &[u8]) -> Result<Paper, PaperFault>
     requires short { length bytes.now ≤ MAX_PAPER }
     ensures read { IfOk result (λ paper. paper_in bytes.now ≡ Ok (data_of paper)) }
     ensures listed { IfOk result (λ paper. IsListed (data_of paper)) }
     ensures short { IfOk result (λ paper. IsShort (data_of paper)) }
+    ensures paper { IfOk result (λ paper. IsPaper (data_of paper)) }
+    ensures lines { IfOk result (λ paper. SaysLines bytes.now (data_of paper)) }
     ensures unread { IfErr result (IsUnread (paper_in bytes.now)) }
     ensures written { (paper : PaperData) → IsPaper paper → bytes.now ≡ paper_text paper
         → paper_in bytes.now ≡ Ok paper }

@@ -5,6 +5,7 @@ use Rattle.std.proofs.lemmas.Result.{err_from_is_err_and}
 use Rattle.paper_form.specs.Form.{Draft, ends_with, read_on, paper_in}
 use Rattle.paper_form.specs.Drafts.{draft_of, size_of}
 use Rattle.paper_form.proofs.ReadingOn.{reads_next, unread_next, ends_read, ok_read, err_unread, paper_in-begins}
+use Rattle.paper_form.proofs.WholePapers.{ok_paper, ok_lines}
 use Rattle.paper_form.proofs.paper.read_paper.Goals as goal
 
 pub loop-text-preserved : goal.loop-text-preserved
@@ -54,3 +55,10 @@ returns-clause-unread c =
     (ends_read c.loop-text.line (draft_of c.loop-text.reading) c.loop-text.rest.now
     (paper_in c.args.bytes.now) c.loop-text.invariant.reads c.in_default.ensures.pieces)
     c.end.ensures.unread
+
+pub returns-clause-paper : goal.returns-clause-paper
+returns-clause-paper c =
+    ok_paper c.args.bytes.now c.end.result (returns-clause-read c) c.end.ensures.listed
+
+pub returns-clause-lines : goal.returns-clause-lines
+returns-clause-lines c = ok_lines c.args.bytes.now c.end.result (returns-clause-read c)
