@@ -1,6 +1,6 @@
 use crate::lines::Lines;
 use crate::shipments::{ShipmentReason, Shipments};
-use crate::types::Kind;
+use command_line::Input;
 use std::alloc::Global;
 use std::io;
 use std::io::Read;
@@ -25,7 +25,7 @@ impl<R: Read + Drop> KeptInput<R> {
     ghost use Rattle.std.specs.Prelude.{◌≡◌};
 
     /// Nothing of it was read yet.
-    pub fn new(alloc: Global, input: R, kind: Kind) -> Self
+    pub fn new(alloc: Global, input: R, kind: Input) -> Self
         ensures { result ≡ input }
     {
         KeptInput {
@@ -36,7 +36,7 @@ impl<R: Read + Drop> KeptInput<R> {
     }
 
     /// What the input is made of.
-    pub fn kind(&self) -> Kind {
+    pub fn kind(&self) -> Input {
         self.lines.kind()
     }
 
@@ -60,7 +60,7 @@ impl<R: Read + Drop> KeptInput<R> {
 // Keeps bytes that were read.
 fn keep(lines: &mut Lines, shipments: &mut Shipments, bytes: &[u8]) {
     match lines.kind() {
-        Kind::Shipments => shipments.keep(bytes),
+        Input::Shipments => shipments.keep(bytes),
         _ => lines.keep(bytes),
     }
 }

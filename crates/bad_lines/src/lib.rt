@@ -30,6 +30,6 @@ pub use kept_input::KeptInput;
 pub use kept_output::{Fault, KeptOutput};
 pub use saying::explain;
 pub use telling::reason;
-pub use types::{Kind, Reason};
+pub use types::Reason;
 pub use watched::WatchedPlan;
 pub use words::explain_words;

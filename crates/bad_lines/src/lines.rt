@@ -1,10 +1,10 @@
-use crate::types::Kind;
+use command_line::Input;
 use std::alloc::Global;
 
 /// The lines of an input that are kept.
 #[derive(Drop)]
 pub(crate) struct Lines {
-    kind: Kind,
+    kind: Input,
     kept: Vec<u8>,
     // How many ended before what is kept.
     ended: u64,
@@ -12,7 +12,7 @@ pub(crate) struct Lines {
 
 impl Lines {
     /// Before the first byte.
-    pub fn new(alloc: Global, kind: Kind) -> Self {
+    pub fn new(alloc: Global, kind: Input) -> Self {
         Lines {
             kind,
             kept: Vec::new(alloc),
@@ -21,7 +21,7 @@ impl Lines {
     }
 
     /// What the input is made of.
-    pub fn kind(&self) -> Kind {
+    pub fn kind(&self) -> Input {
         self.kind
     }
 
@@ -33,17 +33,17 @@ impl Lines {
     /// Keeps bytes that were read, behind the line that they go on. Where there is no memory, nothing
     /// more is kept.
     pub fn keep(&mut self, bytes: &[u8]) {
-        if self.kind == Kind::Script && !bytes.is_empty() {
+        if self.kind == Input::Script && !bytes.is_empty() {
             self.let_go();
         }
         if self.has_lines() && self.kept.extend_from_slice(bytes).is_err() {
-            self.kind = Kind::Other;
+            self.kind = Input::Other;
         }
     }
 
     // Whether lines are kept of it.
     fn has_lines(&self) -> bool {
-        !matches!(self.kind, Kind::Shipments | Kind::Other)
+        !matches!(self.kind, Input::Shipments | Input::Other)
     }
 
     // Lets the lines go that have ended.
@@ -63,7 +63,7 @@ impl Lines {
             return None;
         }
         let before = number.checked_sub(1)?.checked_sub(self.ended)?;
-        let counts_empty = self.kind != Kind::Table;
+        let counts_empty = self.kind != Input::Table;
         self.kept
             .split(|byte| *byte == b'\n')
             .filter(|line| counts_empty || !is_empty(line))

@@ -1,7 +1,8 @@
 use crate::forms::{Form, Part, form_of};
 use crate::papers::reason_of_paper;
 use crate::parts::{fault_in, fault_in_desk, fault_in_request, is_number};
-use crate::types::{Kind, Reason, SHOWN};
+use crate::types::{Reason, SHOWN};
+use command_line::Input;
 
 // What a text may begin with that isn't part of it.
 const MARK: &[u8] = b"\xef\xbb\xbf";
@@ -10,11 +11,11 @@ const MARK: &[u8] = b"\xef\xbb\xbf";
 const NOTHING: &[u8] = b"";
 
 /// Why a line of such an input is bad, by its number from 1 and its bytes without the LF.
-pub fn reason(kind: Kind, number: u64, line: &[u8]) -> Reason<'_> {
-    if kind == Kind::Paper {
+pub fn reason(kind: Input, number: u64, line: &[u8]) -> Reason<'_> {
+    if kind == Input::Paper {
         return reason_of_paper(line);
     }
-    if number == 1 && kind == Kind::Table {
+    if number == 1 && kind == Input::Table {
         return Reason::NoHeader;
     }
     if number == 1 && line.starts_with(MARK) {
@@ -27,7 +28,7 @@ pub fn reason(kind: Kind, number: u64, line: &[u8]) -> Reason<'_> {
         return Reason::NoText;
     }
     match kind {
-        Kind::Table => reason_of_record(line),
+        Input::Table => reason_of_record(line),
         _ => reason_of_command(line),
     }
 }

@@ -1,22 +1,5 @@
 use std::fmt;
 
-/// What an input is made of.
-#[derive(Clone, Copy, PartialEq, Eq)]
-pub enum Kind {
-    /// A line a command: a script is read piece by piece.
-    Script,
-    /// A line a record of an import, which is read whole.
-    Table,
-    /// A plan, which is read whole: what is said of its lines is said of those of its setup.
-    Plan,
-    /// A paper, which is read whole.
-    Paper,
-    /// Shipments: where they stand is known, and none of their bytes is kept.
-    Shipments,
-    /// Something else: none of it is kept.
-    Other,
-}
-
 /// Why a line is bad.
 #[derive(Clone, Copy, PartialEq, Eq)]
 pub enum Reason<'a> {

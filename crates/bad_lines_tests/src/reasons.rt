@@ -1,11 +1,11 @@
-use bad_lines::Kind::{self, Paper, Script, Table};
 use bad_lines::reason;
+use command_line::Input::{self, Paper, Script, Table};
 use std::alloc::Global;
 use std::fmt::Write;
 use std::test::Fail;
 
 // An input, a line of it by its number, and what is told of that.
-const ROWS: &[(Kind, u64, &[u8], &str)] = &[
+const ROWS: &[(Input, u64, &[u8], &str)] = &[
     (
         Script,
         2,
@@ -127,7 +127,7 @@ const ROWS: &[(Kind, u64, &[u8], &str)] = &[
 ];
 
 // Whether that is told.
-fn is_told(alloc: Global, row: &(Kind, u64, &[u8], &str)) -> bool {
+fn is_told(alloc: Global, row: &(Input, u64, &[u8], &str)) -> bool {
     let (kind, number, line, wanted) = row;
     let mut text = String::new(alloc);
     let is_written = write!(text, "{}", reason(*kind, *number, line)).is_ok();

@@ -1,10 +1,10 @@
-use bad_lines::Kind::{self, Other, Script, Table};
 use bad_lines::{Fault, KeptInput, KeptOutput};
+use command_line::Input::{self, Other, Script, Table};
 use std::io::{Read, Write};
 use std::test::Fail;
 
 // An input is read in pieces of so many bytes up to its end, and then has this line, or none.
-const ROWS: &[(Kind, &[u8], usize, u64, Option<&[u8]>)] = &[
+const ROWS: &[(Input, &[u8], usize, u64, Option<&[u8]>)] = &[
     (Script, b"a\nbc\ndef", 8, 1, Some(b"a")),
     (Script, b"a\nbc\ndef", 8, 3, Some(b"def")),
     (Script, b"a\nbc\ndef", 8, 4, None),

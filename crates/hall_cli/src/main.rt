@@ -8,11 +8,9 @@ ghost use Rattle.hall_limits.specs.declared.TheConstants.{MAX_LANE, MAX_DOOR};
 ghost use Rattle.command_line.specs.Words.{bytes_of, wanted_of};
 
 use bad_lines::{KeptInput, KeptOutput, WatchedPlan, explain, explain_words};
-use command_line::{Command, Wants, WantsError, wants, words};
+use command_line::{Input, Wants, WantsError, needs_of, wants, words};
 use disk_core::{Disk, Door, Sink, Source, StdSink, StdSource};
-use hall_devices::{
-    Unopened, Waiting, find_stop, input_kind, lock_cells, open_disk, open_doors, open_lanes,
-};
+use hall_devices::{Unopened, Waiting, find_stop, lock_cells, open_disk, open_doors, open_lanes};
 use hall_top::{Ending, MountError, end_unopened, end_without_memory, hall};
 use lane_worker::{Cell, EitherCell, Gate, Lane, PairLane};
 use run_notices::RunNotices;
@@ -203,9 +201,9 @@ fn do_call<W: Write + Drop, R: AllocGlobal + Threads + Wait + Sync>(
     said: &mut KeptOutput<W>,
 ) -> ExitCode {
     let rt = *call.rt;
-    let is_plan = matches!(call.wanted.command, Command::Serve);
-    let kind = input_kind(call.wanted.command);
-    let mut read = KeptInput::new(rt.alloc(), Waiting::to_read(rt.stdin()), kind);
+    let asked = needs_of(call.wanted.command).input;
+    let is_plan = asked == Input::Plan;
+    let mut read = KeptInput::new(rt.alloc(), Waiting::to_read(rt.stdin()), asked);
     let mut input = StdSource::new(WatchedPlan::new(&mut read, rt, is_plan));
     let status = with_folder(call, &mut input, &mut StdSink::new(&mut *said));
     explain(&rt, rt.alloc(), &read, said, call.wanted.lanes);

@@ -1,5 +1,5 @@
 use book_snapshot::ROW_BYTES;
-use command_line::{Command, Wants};
+use command_line::{BookUse, Command, Wants, needs_of};
 use disk_core::QuietDisk;
 use file_disk::{FileDisk, Notice};
 use hall_limits::MAX_ROWS;
@@ -12,11 +12,11 @@ const BYTES_A_ROW: usize = 2 * ROW_BYTES;
 /// The rows more that its room is for: the header, the closed gates and the ends of the snapshot.
 const ROWS_MORE: usize = 4;
 
-// The rows that a book in memory has room for: that of `prove` or `audit` gets none.
+// The rows that a book in memory has room for: none where no book is opened.
 fn room(wanted: &Wants) -> u32 {
-    match wanted.command {
-        Command::Prove | Command::Audit => 0,
-        _ => wanted.limit,
+    match needs_of(wanted.command).book {
+        BookUse::Examines | BookUse::Leaves => 0,
+        BookUse::Adds | BookUse::Makes | BookUse::Reads => wanted.limit,
     }
 }
 
@@ -26,19 +26,12 @@ fn memory_disk(alloc: Global, limit: u32) -> Result<QuietDisk, AllocError> {
     Ok(QuietDisk::new(Vec::with_capacity(alloc, BYTES_A_ROW * rows)?))
 }
 
-// Whether a command adds nothing to its book.
+// Whether a command has a book that it adds nothing to.
 fn reads_alone(command: Command) -> bool {
-    matches!(
-        command,
-        Command::Report
-            | Command::Export
-            | Command::List
-            | Command::Check
-            | Command::Ship
-            | Command::Paper
-            | Command::Audit
-            | Command::Acts
-    )
+    match needs_of(command).book {
+        BookUse::Reads | BookUse::Examines => true,
+        BookUse::Adds | BookUse::Makes | BookUse::Leaves => false,
+    }
 }
 
 // The file of a book. Standard error says why it can't be opened, and how it was opened where it

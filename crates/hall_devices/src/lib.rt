@@ -9,7 +9,6 @@
 
 mod disk;
 mod doors;
-mod input;
 mod lanes;
 mod port_cell;
 mod scale_door;
@@ -19,7 +18,6 @@ mod waiting;
 
 pub use disk::open_disk;
 pub use doors::open_doors;
-pub use input::input_kind;
 pub use lanes::{HallLane, find_stop, lock_cells, open_lanes};
 pub use port_cell::PortCell;
 pub use scale_door::ScaleDoor;

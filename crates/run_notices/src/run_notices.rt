@@ -2,7 +2,7 @@ use crate::job_lines::{Doors, door_stop, lane_stop};
 use crate::meanings::meaning;
 use batch_reports::refusal_text;
 use book_words::{Act, Entry, Name, Refusal, Refused};
-use command_line::{Command, Wants};
+use command_line::{BookUse, Command, Wants, needs_of};
 use lane_changes::ChangeNotices;
 use lane_worker::{LaneEnd, LaneStop};
 use office_door::DoorEnd;
@@ -72,7 +72,7 @@ impl<E: Eprint + Drop> RunNotices<E> {
             errors,
             alloc,
             at_terminal,
-            adds_rows: adds_rows(wanted.command),
+            adds_rows: needs_of(wanted.command).book == BookUse::Adds,
             has_book: wanted.book.is_some(),
             is_serving: wanted.command == Command::Serve,
             limit: wanted.limit,
@@ -106,14 +106,6 @@ impl<E: Eprint + Drop> RunNotices<E> {
             self.say_left(held, u32::try_from(rows.len()).unwrap_or(u32::MAX));
         }
     }
-}
-
-// Whether a command adds rows that are meant to be kept.
-fn adds_rows(command: Command) -> bool {
-    matches!(
-        command,
-        Command::Run | Command::Serve | Command::Import | Command::Migrate | Command::Follow
-    )
 }
 
 // Says which days behind the first rows are far ahead of the day before them.
