@@ -16,10 +16,11 @@ from archive_asked import ask_all  # noqa: E402
 from archive_room import Postgres  # noqa: E402
 
 from hall_archive import store, witness  # noqa: E402
-from hall_archive.following import Follower, Page  # noqa: E402
+from hall_archive.following import Follower  # noqa: E402
 from hall_archive.rows import PAGE_ROWS, bytes_of  # noqa: E402
 from hall_archive.search import Search  # noqa: E402
 from hall_archive.store import Store  # noqa: E402
+from hall_archive.taking import Page  # noqa: E402
 
 
 class Text:

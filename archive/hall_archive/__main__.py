@@ -25,8 +25,8 @@ import sys
 from collections.abc import Callable
 
 from hall_archive import reading, settings
-from hall_archive.following import OtherBook, Unkept
 from hall_archive.settings import BadSettings, Settings
+from hall_archive.taking import OtherBook, Unkept
 
 Command = Callable[[Settings, str, str], int]
 FAULTY, UNANSWERED, OTHER = 2, 3, 5

@@ -10,12 +10,13 @@ from datetime import UTC, datetime
 from typing import NamedTuple
 
 from hall_archive import checks, following, people
-from hall_archive.following import Behind, Follower, OtherBook, Unanswered, Unkept
+from hall_archive.following import Follower
 from hall_archive.persons import Persons
 from hall_archive.questions import Books
 from hall_archive.reading import NotRead, Reader
 from hall_archive.rows import bytes_of
 from hall_archive.store import Store
+from hall_archive.taking import Behind, OtherBook, Unanswered, Unkept
 from hall_archive.witness import Running, Witness, fingerprint
 
 log = logging.getLogger("hall-archive")
