@@ -14,10 +14,9 @@ from hall_archive.following import Follower
 from hall_archive.persons import Persons
 from hall_archive.questions import Books
 from hall_archive.reading import NotRead, Reader
-from hall_archive.rows import bytes_of
 from hall_archive.store import Store
 from hall_archive.taking import Behind, OtherBook, Unanswered, Unkept
-from hall_archive.witness import Running, Witness, fingerprint
+from hall_archive.witness import Held, Running, Witness
 
 log = logging.getLogger("hall-archive")
 # Seconds between two looks for new lines of the front, and for new rows to be witnessed.
@@ -134,7 +133,7 @@ class Witnessing:
         self.store = store
         self.witness = witness
         self.reader = reader
-        self.running = Running()
+        self.running, self.held = Running(), Held()
         self.night = ""
         # how many rows the next fingerprint is of at least, where one is due; by how many rows the
         # program was asked for it last, and how often
@@ -145,6 +144,7 @@ class Witnessing:
         """Appends the lines that are due; an alarm where the book has other rows than the
         archive."""
         upto = self.store.cursor().upto
+        self.held.add(self.store.packed(self.held.rows, upto))
         if upto and (self.is_night(moment) or has_closed or self.running.rows == 0):
             self.due, self.asked = upto, 0
         if self.asked != upto:
@@ -168,7 +168,7 @@ class Witnessing:
         """Holds a fingerprint against the archive's rows; its line is put where it has as many rows
         as are due, and as the line before. One of other rows is an alarm, and gets no line."""
         assert self.due is not None
-        if audit.digest != self.fingerprint(audit.rows):
+        if audit.digest != self.held.fingerprint(audit.rows):
             why = f"the book's first {audit.rows} rows aren't those that were followed"
             self.store.alarm(moment, why)
             log.error("%s: %s", self.store.name, why)
@@ -179,8 +179,7 @@ class Witnessing:
 
     def put(self, rows: int, moment: int, audit: str) -> None:
         """Appends the line of so many rows."""
-        new = self.store.entries(self.running.rows, rows)
-        self.running.add(map(bytes_of, new))
+        self.held.go_on(self.running, rows)
         said = self.witness.append(moment, self.running.rows, self.running.hex(), audit)
         log.info("witness of %s: %s", self.store.name, said)
 
@@ -194,10 +193,6 @@ class Witnessing:
         words = dict(line.split(" ", 1) for line in said.splitlines() if " " in line)
         rows = min(upto, int(words.get("rows", "0").split(" ")[0]))
         return Audit(rows, words.get("sha256", "")) if rows else None
-
-    def fingerprint(self, rows: int) -> str:
-        """What `audit` has to say of so many rows, by those of the archive."""
-        return fingerprint(rows, map(bytes_of, self.store.entries(upto=rows)))
 
 
 class Checking:

@@ -16,7 +16,17 @@ from hall_archive import schema
 from hall_archive.clock import Clock
 from hall_archive.keeping import Keeper
 from hall_archive.resuming import Resuming
-from hall_archive.rows import MAX_ROWS, PRIORS, SIGNALS, Entry, Weigh, line_of, read_line
+from hall_archive.rows import (
+    MAX_ROWS,
+    PRIORS,
+    SIGNALS,
+    Entry,
+    Weigh,
+    bytes_of,
+    line_of,
+    read_line,
+    weighing_bytes,
+)
 from hall_archive.standing import Standing
 from hall_archive.taking import Cursor, Taken, Unkept
 
@@ -25,6 +35,7 @@ MIGRATIONS = os.path.join(os.path.dirname(os.path.abspath(__file__)), "migration
 BUSY = 30
 # Rows that are read from the database at once.
 CHUNK = 8_192
+PackFields = tuple[int, int, int, int, int, int]
 WEIGHINGS = """
     SELECT row, by, lane, gross, prior, signal FROM pack
     WHERE book = %d AND row > %d AND row <= %d ORDER BY row"""
@@ -167,13 +178,30 @@ class Store:
         return map(read_line, lines)
 
     def weighings(self, after: int = 0, upto: int = MAX_ROWS) -> Iterator[Entry]:
-        """Weighings, in order, a chunk at a time."""
+        """Weighings, in order."""
+        for row, by, lane, gross, prior, signal in self.packs(after, upto):
+            yield Entry(row, SIGNALS[signal], by, 0, 0, Weigh(lane, gross, PRIORS[prior]))
+
+    def packs(self, after: int, upto: int) -> Iterator[PackFields]:
+        """The same as they are kept, a chunk at a time."""
         statement = WEIGHINGS % (self.book, after, upto)
         with reaching(self.reads.connect) as link:
             found = link.execution_options(stream_results=True, yield_per=CHUNK)
-            for row, by, lane, gross, prior, signal in found.exec_driver_sql(statement):
-                weighed = Weigh(lane, gross, PRIORS[prior])
-                yield Entry(row, SIGNALS[signal], by, 0, 0, weighed)
+            yield from found.exec_driver_sql(statement)
+
+    def packed(self, after: int, upto: int) -> Iterator[bytes]:
+        """The bytes of rows behind `after` up to `upto`, in order: past the entries of weighings,
+        which are most of a book."""
+        acts = self.acts(after, upto)
+        act = next(acts, None)
+        for row, by, lane, gross, prior, signal in self.packs(after, upto):
+            while act and act.row < row:
+                yield bytes_of(act)
+                act = next(acts, None)
+            yield weighing_bytes(row, by, lane, gross, prior, signal)
+        if act:
+            yield bytes_of(act)
+            yield from map(bytes_of, acts)
 
     # ---- what a follower keeps
 
