@@ -7,7 +7,6 @@ import threading
 import time
 from collections.abc import Callable
 from datetime import UTC, datetime
-from typing import NamedTuple
 
 from hall_archive import checks, following, people
 from hall_archive.following import Follower
@@ -117,13 +116,6 @@ class People:
                 log.warning("the front has a line of no act: %s", one.fault)
 
 
-class Audit(NamedTuple):
-    """What `hall audit` says of the first rows of a book's file."""
-
-    rows: int
-    digest: str
-
-
 class Witnessing:
     """Keeps the witness of a book: at the start, at each closing, each minute with new rows, and
     nightly. At starts, closings and nights a line has the fingerprint of `hall audit` too, as soon
@@ -164,7 +156,7 @@ class Witnessing:
         self.night = f"{now:%F}"
         return True
 
-    def hold(self, audit: Audit, moment: int) -> None:
+    def hold(self, audit: checks.Audit, moment: int) -> None:
         """Holds a fingerprint against the archive's rows; its line is put where it has as many rows
         as are due, and as the line before. One of other rows is an alarm, and gets no line."""
         assert self.due is not None
@@ -183,16 +175,14 @@ class Witnessing:
         said = self.witness.append(moment, self.running.rows, self.running.hex(), audit)
         log.info("witness of %s: %s", self.store.name, said)
 
-    def audit(self, upto: int) -> Audit | None:
+    def audit(self, upto: int) -> checks.Audit | None:
         """The fingerprint of the book's first rows, `upto` at most; None without an answer."""
         try:
-            said = b"".join(self.reader.ask(self.store.name, "audit", str(upto))).decode("ascii")
+            audit = checks.audit_of(self.reader, self.store.name, upto)
         except NotRead as fault:
             log.warning("%s", fault)
             return None
-        words = dict(line.split(" ", 1) for line in said.splitlines() if " " in line)
-        rows = min(upto, int(words.get("rows", "0").split(" ")[0]))
-        return Audit(rows, words.get("sha256", "")) if rows else None
+        return audit if audit.rows else None
 
 
 class Checking:
