@@ -16,10 +16,11 @@ from archive_asked import ask_all  # noqa: E402
 from archive_room import Postgres  # noqa: E402
 
 from hall_archive import store, witness  # noqa: E402
-from hall_archive.following import Follower, Page  # noqa: E402
-from hall_archive.rows import PAGE_ROWS, bytes_of  # noqa: E402
+from hall_archive.following import Follower  # noqa: E402
+from hall_archive.rows import PAGE_ROWS  # noqa: E402
 from hall_archive.search import Search  # noqa: E402
 from hall_archive.store import Store  # noqa: E402
+from hall_archive.taking import Page  # noqa: E402
 
 
 class Text:
@@ -78,8 +79,8 @@ def measure(
     costs.timed("begun anew", lambda: Follower("day", source, kept))
     search = Search(store.open_engine(url))
     costs.timed("register", lambda: sum(1 for _ in search.register(kept.book)))
-    running = witness.Running()
-    costs.timed("rows hashed", lambda: running.add(map(bytes_of, kept.entries())))
+    held = witness.Held()
+    costs.timed("rows read for the witness", lambda: held.add(kept.packed(0, len(lines))))
     costs.timed(f"{books} books of it", lambda: copy_books(kept, books))
     ask_all(kind, search, len(lines), costs.used)
 

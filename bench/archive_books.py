@@ -87,7 +87,7 @@ class Made:
             self.act(101, f"void {row}")
             self.last[lane] = False
             return []
-        return [row]
+        return [row] if is_good else []
 
 
 def put_hours(kept: Store, rows: int) -> None:

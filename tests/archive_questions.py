@@ -17,7 +17,7 @@ from hall_archive.rows import milligrams
 from hall_archive.search import Search
 from hall_archive.spans import EVER, Behind, Time
 
-MODULES = ("keeping", "packs", "search", "acts")
+MODULES = ("keeping", "packs", "search", "acts", "resuming")
 DRAWS = 12
 
 
@@ -29,7 +29,7 @@ def small(block: int, page: int) -> Iterator[None]:
     patches = [
         mock.patch(f"hall_archive.{name}", sizes[name.split(".")[1]])
         for name in names
-        if name not in ("keeping.PAGE", "acts.BLOCK")
+        if name not in ("keeping.PAGE", "acts.BLOCK", "resuming.PAGE")
     ]
     for patch in patches:
         patch.start()

@@ -17,18 +17,20 @@ import tempfile
 from contextlib import redirect_stderr, redirect_stdout
 
 HERE = os.path.dirname(os.path.realpath(__file__))
-sys.path.insert(0, f"{HERE}/../archive")
+sys.path[:0] = [f"{HERE}/../archive", f"{HERE}/../archive/tests"]
 
 import archive_questions  # noqa: E402
 import archive_story  # noqa: E402
 from drawn_books import Draw, draw_book  # noqa: E402
+from memory_archive import Text  # noqa: E402
 
 from hall_archive import settings, store  # noqa: E402
 from hall_archive.__main__ import main as archive  # noqa: E402
+from hall_archive.following import Follower  # noqa: E402
 from hall_archive.search import Search  # noqa: E402
 from hall_archive.service import People, Witnessing  # noqa: E402
 from hall_archive.store import Store  # noqa: E402
-from hall_archive.witness import Witness  # noqa: E402
+from hall_archive.witness import HEAD_BYTES, Witness  # noqa: E402
 
 SLOT = 96
 MOMENT = 1_764_585_125_250
@@ -86,9 +88,34 @@ def try_book(room: Room, place: int, seed: str) -> int:
         [room.program, "check", "--book", path], capture_output=True, text=True, check=True
     )
     count = int(rows.stdout.split()[1])
+    try_restarts(room, book, path, chance)
     if count > 3:
         spoil(room, book, path, count, chance)
     return count
+
+
+def try_restarts(room: Room, book: str, path: str, chance: random.Random) -> None:
+    """The same book, followed by one that is begun anew behind each of some rows: the register is
+    the book's, and so are the rows that the witness hashes."""
+    told = subprocess.run(
+        [room.program, "acts", "--book", path], capture_output=True, text=True, check=True
+    ).stdout
+    lines = told.splitlines(keepends=True)
+    kept = Store(store.open_engine(settings.load(room.path).database, True), "other", book)
+    most = len(lines) if chance.random() < 0.3 else min(len(lines), 12)
+    for part in (*sorted(chance.sample(range(1, len(lines) + 1), most)), len(lines)):
+        follower = Follower(book, Text("".join(lines[:part])), kept)
+        while follower.step()[0]:
+            pass
+    books = Search(kept.reads)
+    due = subprocess.run([room.program, "export", "--book", path], capture_output=True, check=True)
+    if "".join(books.register(kept.book)) != due.stdout.decode():
+        sys.exit(f"{book}: begun anew behind rows, the register is another")
+    shipped = subprocess.run(
+        [room.program, "ship", "--book", path], capture_output=True, check=True
+    )
+    if b"".join(kept.packed(0, len(lines))) != shipped.stdout[HEAD_BYTES:]:
+        sys.exit(f"{book}: the rows are others")
 
 
 def spoil(room: Room, book: str, path: str, count: int, chance: random.Random) -> None:

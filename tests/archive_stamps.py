@@ -24,7 +24,7 @@ from clients import need  # noqa: E402
 
 from hall_archive import stamps  # noqa: E402
 from hall_archive.__main__ import main as archive  # noqa: E402
-from hall_archive.witness import Differs, Witness, read_lines  # noqa: E402
+from hall_archive.witness import Differs, Witness, digest_of, read_lines  # noqa: E402
 
 MOMENT = 1_764_585_125_250
 SETTINGS = """
@@ -177,7 +177,12 @@ def try_faults(book: Book, own: Authority, other: Authority) -> None:
     need(status == 3 and "isn't stamped" in said, f"{status} {said}")
     need(len(book.stamps()) == 3, f"kept are {book.stamps()}")
     try:
-        stamps.stamp(book.path, 4, book.witness.lines[3], other.url, own.path("ca.crt"))
+        stamps.stamp(
+            digest_of(str(book.witness.lines[3])),
+            stamps.path_of(book.path, 4),
+            other.url,
+            own.path("ca.crt"),
+        )
     except stamps.NotStamped:
         pass
     need(len(book.stamps()) == 3, "another authority's stamp is kept")

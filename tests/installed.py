@@ -314,4 +314,5 @@ def main() -> None:
         debian.kill()
 
 
-main()
+if __name__ == "__main__":
+    main()

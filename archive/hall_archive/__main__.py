@@ -8,6 +8,7 @@ usage: hall-archive [--settings PATH] COMMAND
     register BOOK         prints the register, byte for byte as `hall export`
     sheet BOOK BATCH      prints the sheet of a batch, as `hall report --batch`
     story BOOK BATCH      prints the acts of a batch: when, who, what and why
+    appendix BOOK BATCH   makes the appendix to the paper of a closed batch, sealed and stamped
     check BOOK            compares the register and each sheet with those of a book at rest
     verify BOOK           compares the witness with the book, line by line
     stamp BOOK            has the newest line of the witness stamped by an authority (RFC 3161)
@@ -25,8 +26,8 @@ import sys
 from collections.abc import Callable
 
 from hall_archive import reading, settings
-from hall_archive.following import OtherBook, Unkept
 from hall_archive.settings import BadSettings, Settings
+from hall_archive.taking import OtherBook, Unkept
 
 Command = Callable[[Settings, str, str], int]
 FAULTY, UNANSWERED, OTHER = 2, 3, 5
@@ -68,11 +69,18 @@ def by_database(name: str) -> Command:
     return run
 
 
-OF_A_BATCH = ("sheet", "story")
+def appendix(found: Settings, book: str, batch: str) -> int:
+    from hall_archive import sealing
+
+    return sealing.write(found, book, batch)
+
+
+OF_A_BATCH = ("sheet", "story", "appendix")
 OF_A_BOOK = ("follow", "take", "register", "check", "verify", "stamp", *OF_A_BATCH)
 COMMANDS: dict[str, Command] = {
     "read": read_one,
     **{name: by_database(name) for name in ("migrate", "serve", "openapi", *OF_A_BOOK)},
+    "appendix": appendix,
 }
 
 

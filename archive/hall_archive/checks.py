@@ -2,6 +2,7 @@
 lines of the register, of a book at rest all of it. What differs is an alarm."""
 
 from collections.abc import Iterable, Iterator
+from typing import NamedTuple
 
 from hall_archive import nets
 from hall_archive.reading import NotRead, Reader
@@ -13,6 +14,20 @@ class Differs(Exception):
 
 def report_of(reader: Reader, book: str, batch: str) -> str:
     return b"".join(reader.ask(book, "report", batch)).decode("ascii")
+
+
+class Audit(NamedTuple):
+    """What `hall audit` says of the first rows of a book's file."""
+
+    rows: int
+    digest: str
+
+
+def audit_of(reader: Reader, book: str, rows: int) -> Audit:
+    """The fingerprint of the book's first rows, `rows` at most. NotRead without an answer."""
+    said = b"".join(reader.ask(book, "audit", str(rows))).decode("ascii")
+    words = dict(line.split(" ", 1) for line in said.splitlines() if " " in line)
+    return Audit(min(rows, int(words.get("rows", "0").split(" ")[0])), words.get("sha256", ""))
 
 
 def is_closed(sheet: str) -> bool:

@@ -13,7 +13,7 @@ from typing import Any
 from hall_archive import checks, nets, stamps, store, witness
 from hall_archive.door import Door
 from hall_archive.appending import whole_lines
-from hall_archive.following import COMMIT_ROWS, Follower, OtherBook, Page, Spool, Unkept
+from hall_archive.following import COMMIT_ROWS, Follower, Spool
 from hall_archive.questions import Books
 from hall_archive.reading import Reader, at_rest
 from hall_archive.rows import line_of
@@ -29,6 +29,7 @@ from hall_archive.service import (
 from hall_archive.settings import BadSettings, BookSettings, Settings
 from hall_archive.search import Search
 from hall_archive.store import Store
+from hall_archive.taking import OtherBook, Page, Unkept
 from hall_archive.witness import Witness, utc_text
 
 log = logging.getLogger("hall-archive")

@@ -5,7 +5,7 @@ answer of a door."""
 import re
 import socket
 
-from hall_archive.following import Page, Unanswered
+from hall_archive.taking import Page, Unanswered
 
 # A door ends a connection at its 1 000th request: it is renewed before.
 REQUESTS = 900

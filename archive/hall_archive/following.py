@@ -9,10 +9,9 @@ import os
 import time
 from collections import deque
 from collections.abc import Callable
-from dataclasses import dataclass, field
-from typing import Any, NamedTuple, NoReturn, Protocol
+from typing import Any, NoReturn
 
-from hall_archive import clock, nets
+from hall_archive import clock
 from hall_archive.appending import append, whole_lines
 from hall_archive.clock import Answer, Clock, Hours, Moment
 from hall_archive.rows import (
@@ -24,16 +23,24 @@ from hall_archive.rows import (
     Draw,
     End,
     Entry,
-    Measure,
     Open,
     Product,
-    Second,
-    Start,
     Tare,
-    Void,
     Weigh,
     line_of,
     read_text,
+)
+from hall_archive.standing import Running, WrongBook
+from hall_archive.taking import (
+    ActRow,
+    Archive,
+    BatchRow,
+    OtherBook,
+    Page,
+    Source,
+    Taken,
+    Unanswered,
+    Unkept,
 )
 
 # Seconds from one request to the next while nothing new comes, and while the door or the database
@@ -46,106 +53,6 @@ COMPARED = PAGE_ROWS
 # while the database doesn't answer.
 COMMIT_ROWS = 8_192
 WAITING_ROWS = 200_000
-
-
-class OtherBook(Exception):
-    """The book at hand isn't the one that was followed so far."""
-
-
-class Unanswered(Exception):
-    """No answer came, or none of a book: it is asked again."""
-
-
-class Unkept(Exception):
-    """The database doesn't answer, or has no room: it is tried again."""
-
-
-class Behind(Exception):
-    """The archive is at another row than was thought: it is read anew."""
-
-
-class Cursor(NamedTuple):
-    """How far a book was followed: rows taken, when the last request was sent whose answer wasn't
-    full (ms of UTC), its clock, and why it is refused, where it is."""
-
-    upto: int
-    asked: int | None
-    clock: Clock | None
-    refused: str | None
-
-
-class Page(NamedTuple):
-    """What a source says: lines, and how many rows the book has."""
-
-    text: str
-    rows: int
-
-
-class BatchRow(NamedTuple):
-    """How a batch stands, as it is kept."""
-
-    row: int
-    name: str
-    product: str
-    state: str
-    verdict: str
-    first: int
-    last: int
-    closed: int | None
-
-
-PackRow = tuple[tuple[int, int, int, int, int], tuple[int, int, int]]
-ActRow = tuple[int, int | None, str | None, str, str]
-
-
-@dataclass
-class Taken:
-    """What one commit keeps: rows behind `after` up to `upto`, and what they come to."""
-
-    after: int
-    upto: int
-    asked: int | None
-    clock: Clock | None
-    packs: list[PackRow] = field(default_factory=list)
-    acts: list[ActRow] = field(default_factory=list)
-    moves: list[nets.Move] = field(default_factory=list)
-    answers: list[Answer] = field(default_factory=list)
-    batches: list[BatchRow] = field(default_factory=list)
-    closed: list[str] = field(default_factory=list)
-
-
-class Source(Protocol):
-    """Where the rows of a book come from."""
-
-    def ask(self, after: int) -> Page:
-        """The lines behind a row; Unanswered where none come."""
-
-    @property
-    def is_new(self) -> bool:
-        """Whether the next request is the first of its connection."""
-
-    def close(self) -> None:
-        """Ends the connection."""
-
-
-class Archive(Protocol):
-    """What a follower needs of the archive; `store.Store` is one. Each call is Unkept where the
-    database doesn't answer."""
-
-    def cursor(self) -> Cursor:
-        ...
-
-    def resume(self) -> nets.Book:
-        ...
-
-    def lines(self, after: int, upto: int) -> list[str]:
-        ...
-
-    def keep(self, taken: Taken) -> None:
-        ...
-
-    def refuse(self, why: str) -> None:
-        ...
 
 
 class Spool:
@@ -176,22 +83,6 @@ def answer_of(fields: list[Any]) -> Answer:
     return Answer(upto, low, high, kind, Clock(*stretch))
 
 
-@dataclass
-class Touched:
-    """A batch of which rows came: its first weighing before them, or 0, its last, and its closing."""
-
-    batch: nets.Batch
-    first: int
-    last: int
-    closed: int | None = None
-
-    def row(self) -> BatchRow:
-        """How it now stands."""
-        batch, first = self.batch, self.first or ends_of(self.batch)[0]
-        now = (batch.row, batch.name, batch.goods.name, batch.state, batch.verdict)
-        return BatchRow(*now, first, self.last, self.closed)
-
-
 class Follower:
     """Follows one book into an archive."""
 
@@ -219,7 +110,7 @@ class Follower:
             raise OtherBook(cursor.refused)
         self.upto = cursor.upto
         self.hours = Hours(cursor.asked, cursor.clock)
-        self.book = self.archive.resume()
+        self.standing = self.archive.standing(self.upto)
         recent = self.archive.lines(max(0, self.upto - COMPARED), self.upto)
         self.recent = deque(recent, COMPARED)
         self.known = [answer for answer in self.spool.read() if answer.upto > self.upto]
@@ -228,7 +119,7 @@ class Follower:
             self.spool.clear()
         self.spooled = 0
         self.tried = 0.0
-        self.touched: dict[str, Touched] = {}
+        self.touched: dict[str, Running] = {}
         self.waiting = self.new_taken()
         self.source.close()
 
@@ -247,7 +138,12 @@ class Follower:
         answer = self.hours.answered(sent, came, len(entries), self.upto + len(entries))
         if answer:
             self.waiting.answers += self.with_known(answer)
-        self.take(entries)
+        try:
+            self.take(entries)
+        except Unkept:
+            # an act needs packs of before, which can't be read now
+            self.put_aside(self.waiting.answers)
+            raise
         self.recent.extend(page.text.split("\n")[:-1])
         return len(entries), self.keep() if self.is_due(len(entries)) else None
 
@@ -302,42 +198,36 @@ class Follower:
         """Takes rows in; OtherBook where they can't follow those before them."""
         for entry in entries:
             try:
-                moves = self.book.take(entry)
-            except nets.WrongBook as fault:
+                moves, batch = self.standing.take(entry)
+            except WrongBook as fault:
                 self.other(f"has a row that can't follow: {fault}")
-            self.waiting.moves += moves
-            self.note(entry)
+            if moves:
+                self.waiting.moves += moves
+            self.note(entry, batch)
         self.upto += len(entries)
         self.waiting.upto = self.upto
 
-    def note(self, entry: Entry) -> None:
+    def note(self, entry: Entry, batch: Running | None) -> None:
+        """Notes what is to be kept of a row that was taken in."""
         act = entry.act
         if isinstance(act, Weigh):
-            pack = self.book.packs[entry.row]
-            self.waiting.packs.append(pack_row(entry, act, pack))
-            self.touch(pack.batch).last = entry.row
+            assert batch and self.standing.day is not None
+            of = (entry.row, batch.row, self.standing.day, act.gross, entry.by, act.lane)
+            self.waiting.packs.append((*of, PRIOR_OF[act.prior], SIGNAL_OF[entry.told]))
+            self.touched[batch.name] = batch
             return
-        batch = batch_of(self.book, entry)
         self.waiting.acts.append(act_row(entry, batch))
         if batch and isinstance(act, Open | End | Draw | Close):
-            touched = self.touch(batch)
+            self.touched[batch.name] = batch
             if isinstance(act, Close):
-                touched.closed = entry.row
-                self.waiting.closed.append(act.batch)
-
-    def touch(self, batch: nets.Batch) -> Touched:
-        """Notes that a batch has to be kept as it then stands."""
-        found = self.touched.get(batch.name)
-        if found is None:
-            found = self.touched[batch.name] = Touched(batch, *ends_of(batch))
-        return found
+                self.waiting.closed.append(batch.name)
 
     def keep(self) -> Taken | None:
         """Hands what waits to the archive; where that doesn't answer its hours go to a file, and
         it is tried again a second later."""
         taken = self.waiting
         taken.asked, taken.clock = self.hours.asked, self.hours.clock
-        taken.batches = [touched.row() for touched in self.touched.values()]
+        taken.batches = [batch_row(batch) for batch in self.touched.values()]
         try:
             self.archive.keep(taken)
         except Unkept:
@@ -359,7 +249,7 @@ class Follower:
 
     def kept(self, taken: Taken) -> None:
         for name in taken.closed:
-            self.book.forget(name)
+            self.standing.forget(name)
         if self.has_spool and not self.known:
             self.spool.clear()
             self.has_spool = False
@@ -368,18 +258,13 @@ class Follower:
         self.waiting = self.new_taken()
 
 
-def ends_of(batch: nets.Batch) -> tuple[int, int]:
-    """The first and the last weighing of a batch, 0 without one."""
-    packs = batch.packs
-    return (next(iter(packs)), next(reversed(packs))) if packs else (0, 0)
+def batch_row(batch: Running) -> BatchRow:
+    """How a batch now stands."""
+    now = (batch.row, batch.name, batch.product, batch.state, batch.verdict)
+    return BatchRow(*now, batch.first, batch.last, batch.closed)
 
 
-def pack_row(entry: Entry, act: Weigh, pack: nets.Pack) -> PackRow:
-    wide = (entry.row, pack.batch.row, pack.day, act.gross, entry.by)
-    return wide, (act.lane, PRIOR_OF[act.prior], SIGNAL_OF[entry.told])
-
-
-def act_row(entry: Entry, batch: nets.Batch | None) -> ActRow:
+def act_row(entry: Entry, batch: Running | None) -> ActRow:
     kind = type(entry.act).__name__.lower()
     return entry.row, batch.row if batch else None, product_of(entry), kind, line_of(entry)
 
@@ -390,16 +275,6 @@ def product_of(entry: Entry) -> str | None:
             return name
         case Tare(product) | Open(_, product):
             return product
-    return None
-
-
-def batch_of(book: nets.Book, entry: Entry) -> nets.Batch | None:
-    """The batch that an act speaks of, by its name or by a pack."""
-    match entry.act:
-        case Void(pack) | Measure(pack):
-            return book.packs[pack].batch
-        case Open(name) | Start(_, name) | End(name) | Draw(name) | Second(name) | Close(name):
-            return book.batches[name]
     return None
 
 

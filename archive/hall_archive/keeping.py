@@ -8,11 +8,14 @@ from typing import Any
 
 from hall_archive import nets
 from hall_archive.clock import Answer, Clock
-from hall_archive.following import Behind, Taken, Unkept
+from hall_archive.taking import Behind, PackRow, Taken, Unkept
 
 KINDS = ("live", "late", "step")
 # Rows of a block: when it is whole, the sums of its packs are kept.
 BLOCK = 4_096
+# The columns of a weighing, and its line as COPY of PostgreSQL reads it, where %d is the book.
+PACK = 'row, batch, day, gross, "by", lane, prior, signal, book'
+PACK_LINE = "%%d\t" * 8 + "%d\n"
 # %s is the place of a value
 MOVE_CURSOR = "UPDATE book SET upto = %s, asked = %s, clock = %s WHERE id = %s AND upto = %s"
 FIND_CLOCK = 'SELECT id FROM clock WHERE boot = %s AND "offset" = %s'
@@ -74,8 +77,7 @@ class Keeper:
             moved = (taken.upto, taken.asked, clock, self.book, taken.after)
             if self.run(cursor, MOVE_CURSOR, moved).rowcount != 1:
                 raise Behind(f"{self.name}: the archive isn't at row {taken.after}")
-            packs = [(*pack, self.book, *more) for pack, more in taken.packs]
-            self.insert(cursor, "pack", packs)
+            self.add_packs(cursor, taken.packs)
             moves = [(m.pack, m.row, self.book, nets.PILES.index(m.pile)) for m in taken.moves]
             self.insert(cursor, "move", moves)
             acts = [(row, self.book, batch, *more) for row, batch, *more in taken.acts]
@@ -85,6 +87,18 @@ class Keeper:
             for batch in taken.batches:
                 self.run(cursor, PUT_BATCH, (self.book, *batch))
             self.add_blocks(cursor, taken)
+
+    def add_packs(self, cursor: Any, packs: list[PackRow]) -> None:
+        """Adds weighings, which are most of all rows: each as it is, with the number of the book."""
+        if not packs:
+            return
+        if self.is_postgres:
+            line = PACK_LINE % self.book
+            text = io.StringIO("".join([line % pack for pack in packs]))
+            cursor.copy_expert(f"COPY pack ({PACK}) FROM STDIN", text)
+        else:
+            marks = f"{'?, ' * len(packs[0])}{self.book}"
+            cursor.executemany(f"INSERT INTO pack ({PACK}) VALUES ({marks})", packs)
 
     def add_blocks(self, cursor: Any, taken: Taken) -> None:
         """Adds the sums of the blocks that became whole."""

@@ -3,44 +3,15 @@ and the register, as docs/RULES.md and FORMATS.md have them. What the book was t
 rows and isn't judged again; nets are by the tares as they now are. Masses are in mg."""
 
 import bisect
-from collections.abc import Container, Iterable, Iterator
-from typing import NamedTuple
+from collections.abc import Iterable, Iterator
 
 from hall_archive import rules
-from hall_archive.rows import (
-    Close,
-    Day,
-    Draw,
-    End,
-    Entry,
-    Measure,
-    Open,
-    Product,
-    Second,
-    Start,
-    Stop,
-    Tare,
-    Void,
-    Weigh,
-    day_text,
-    grams,
-)
+from hall_archive.rows import Close, Draw, End, Entry, Measure, Second, day_text, grams
+from hall_archive.standing import WrongBook
 
 PILES = ("passed", "rejected", "sampled", "voided")
 POPULATION = ("passed", "sampled")
 REGISTER_HEAD = "pack,batch,product,lane,day,gross,net,class,signal,pile\n"
-
-
-class WrongBook(ValueError):
-    """Rows that can't follow those before them, so that they are of no book, or of another."""
-
-
-class Move(NamedTuple):
-    """A pack that came into another pile than its signal says, by this row."""
-
-    pack: int
-    pile: str
-    row: int
 
 
 class Goods:
@@ -108,6 +79,24 @@ class Batch:
         """The packs that count, ascending."""
         return [pack for pack in self.packs.values() if pack.pile in POPULATION]
 
+    def take(self, entry: Entry, picks: list[int]) -> None:
+        """Takes in what was done with it: its end, its draws by the packs that they moved, what was
+        measured, its verdict."""
+        match entry.act:
+            case End():
+                self.state = "ended"
+            case Draw(_, mode, word):
+                self.state, self.mode = "drawn", mode
+                self.words.append(word)
+                self.samples.append(picks)
+            case Second(_, word):
+                self.words.append(word)
+                self.samples.append(picks)
+            case Measure(pack, gross, empty):
+                self.measured[pack] = (gross, empty)
+            case Close():
+                self.state, self.verdict = "closed", entry.told
+
     def contents(self, pack: int) -> int:
         """What a measured pack holds, in mg."""
         gross, empty = self.measured[pack]
@@ -118,136 +107,6 @@ class Batch:
 
 def first_pile(signal: str) -> str:
     return "passed" if signal == "pass" else "rejected"
-
-
-class Book:
-    """A book, taken in row by row."""
-
-    def __init__(self) -> None:
-        self.day: int | None = None
-        self.goods: dict[str, Goods] = {}
-        self.batches: dict[str, Batch] = {}
-        self.lanes: dict[int, Batch] = {}
-        self.last: dict[int, Pack] = {}
-        self.packs: dict[int, Pack] = {}
-
-    def take(self, entry: Entry) -> list[Move]:
-        """Takes a row in; the packs that it moves. WrongBook where no such row can come."""
-        try:
-            return self.enter(entry)
-        except KeyError as fault:
-            raise WrongBook(f"row {entry.row} speaks of {fault}, which isn't there") from fault
-
-    def enter(self, entry: Entry) -> list[Move]:
-        row, act = entry.row, entry.act
-        match act:
-            case Weigh(lane, gross, prior):
-                moves = self.settle(lane, prior, row)
-                self.weigh(row, lane, gross, entry.told)
-                return moves
-            case Stop(lane, prior):
-                moves = self.settle(lane, prior, row)
-                del self.lanes[lane]
-                return moves
-            case Void(pack):
-                return [self.move(self.packs[pack], "voided", row)]
-            case Draw(name, mode, word):
-                return self.draw(self.batches[name], mode, word, row)
-            case Second(name, word):
-                return self.draw_more(self.batches[name], word, row)
-            case _:
-                self.note(entry)
-                return []
-
-    def forget(self, name: str) -> None:
-        """Lets go of the packs of a batch, which is closed."""
-        packs = self.batches[name].packs
-        for row in packs:
-            del self.packs[row]
-        packs.clear()
-
-    def note(self, entry: Entry) -> None:
-        """Takes in an act that moves no pack."""
-        match entry.act:
-            case Day(day):
-                self.day = day
-            case Product(name, nominal, is_volume):
-                self.goods[name] = Goods(name, nominal, is_volume)
-            case Tare(product, day, tare):
-                self.goods[product].put(day, tare)
-            case Open(name, product, density):
-                self.batches[name] = Batch(entry.row, name, self.goods[product], density)
-            case Start(lane, name):
-                self.lanes[lane] = self.batches[name]
-                self.last.pop(lane, None)
-            case End(name):
-                self.batches[name].state = "ended"
-            case Measure(pack, gross, empty):
-                self.packs[pack].batch.measured[pack] = (gross, empty)
-            case Close(name):
-                batch = self.batches[name]
-                batch.state, batch.verdict = "closed", entry.told
-
-    def weigh(self, row: int, lane: int, gross: int, told: str) -> None:
-        if self.day is None:
-            raise WrongBook(f"row {row} weighs without a day")
-        batch = self.lanes[lane]
-        pack = Pack(row, batch, self.day, gross, lane, told, first_pile(told))
-        self.packs[row] = batch.packs[row] = self.last[lane] = pack
-
-    def settle(self, lane: int, prior: str, row: int) -> list[Move]:
-        """What the gate did at the pack before on this lane."""
-        pack = self.last.pop(lane, None)
-        if prior in ("none", "opened"):
-            return []
-        if pack is None or pack.signal != "pass":
-            raise WrongBook(f"row {row} says {prior} of no pack")
-        return [self.move(pack, "rejected" if prior == "stayed" else "voided", row)]
-
-    def move(self, pack: Pack, pile: str, row: int) -> Move:
-        pack.pile = pile
-        return Move(pack.row, pile, row)
-
-    def draw(self, batch: Batch, mode: str, word: int, row: int) -> list[Move]:
-        packs = [pack.row for pack in batch.population()]
-        size, _ = rules.sample_sizes(len(packs), mode)
-        batch.state, batch.mode = "drawn", mode
-        return self.sample(batch, rules.draw(packs, size, word), word, row)
-
-    def draw_more(self, batch: Batch, word: int, row: int) -> list[Move]:
-        packs = [pack.row for pack in batch.population()]
-        _, size = rules.sample_sizes(len(packs), batch.mode)
-        first = set(batch.samples[0])
-        left = [pack for pack in packs if pack not in first]
-        return self.sample(batch, rules.draw(left, size, word), word, row)
-
-    def sample(self, batch: Batch, picks: list[int], word: int, row: int) -> list[Move]:
-        batch.words.append(word)
-        batch.samples.append(picks)
-        return [self.move(batch.packs[pack], "sampled", row) for pack in picks]
-
-
-def resume(entries: Iterable[Entry], gone: Container[str]) -> Book:
-    """A book behind rows of which the weighings of some batches, those of `gone`, are left out."""
-    book = Book()
-    for entry in entries:
-        if not speaks_of_gone(book, entry, gone):
-            book.take(entry)
-    return book
-
-
-def speaks_of_gone(book: Book, entry: Entry, gone: Container[str]) -> bool:
-    """Whether an act is one of packs that are left out; a lane that stops only stops."""
-    match entry.act:
-        case Void(pack) | Measure(pack):
-            return pack not in book.packs
-        case Draw(name) | Second(name):
-            return name in gone
-        case Stop(lane):
-            if book.lanes[lane].name in gone:
-                del book.lanes[lane]
-                return True
-    return False
 
 
 # ---- texts

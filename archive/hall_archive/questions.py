@@ -11,10 +11,7 @@ from hall_archive.keeping import KINDS
 from hall_archive.nets import PILES, REGISTER_HEAD, Batch, Goods
 from hall_archive.rows import (
     SIGNALS,
-    Close,
     Draw,
-    End,
-    Measure,
     Open,
     Product,
     Second,
@@ -155,20 +152,10 @@ class Books:
             batch=batch.row,
         ):
             entry = read_line(line)
-            match entry.act:
-                case End():
-                    batch.state = "ended"
-                case Draw(_, mode, word):
-                    batch.state, batch.mode = "drawn", mode
-                    self.add_sample(book, batch, entry.row, word)
-                case Second(_, word):
-                    self.add_sample(book, batch, entry.row, word)
-                case Measure(pack, gross, empty):
-                    batch.measured[pack] = (gross, empty)
-                case Close():
-                    batch.state, batch.verdict = "closed", entry.told
+            is_draw = isinstance(entry.act, Draw | Second)
+            batch.take(entry, self.picks(book, batch, entry.row) if is_draw else [])
 
-    def add_sample(self, book: int, batch: Batch, row: int, word: int) -> None:
+    def picks(self, book: int, batch: Batch, row: int) -> list[int]:
         """The packs that a draw moved, ascending."""
         moved = self.ask(
             "SELECT pack FROM move WHERE book = :book AND pack BETWEEN :first AND :last"
@@ -178,8 +165,7 @@ class Books:
             first=min(batch.packs, default=0),
             last=max(batch.packs, default=0),
         )
-        batch.words.append(word)
-        batch.samples.append([pack for (pack,) in moved])
+        return [pack for (pack,) in moved]
 
     # ---- hours
 

@@ -29,6 +29,7 @@ QUESTIONS = {
     "acts": ("--after", NUMBER),
     "audit": ("--rows", NUMBER),
     "report": ("--batch", NAME),
+    "paper": ("--batch", NAME),
     "export": None,
     "ship": None,
 }

@@ -160,6 +160,9 @@ def by_of(text: str) -> int:
     return first + int(number or 0)
 
 
+# Who brings most rows, by the second column.
+CALLERS = {by_text(by): by for by in range(LAST_DOOR + 1)}
+
 # ---- lines
 
 
@@ -233,8 +236,10 @@ def read_line(line: str) -> Entry:
     """The entry of a line without its LF; BadRow where that line is none."""
     if found := WEIGH_LINE.fullmatch(line):
         row, told, by, lane, whole, part, prior = found.groups()
-        weighed = Weigh(int(lane), int(whole) * 1000 + int(part), prior)
-        return Entry(int(row), told, by_of(by), 0, 0, weighed)
+        caller = CALLERS.get(by)
+        if caller is not None:
+            weighed = Weigh(int(lane), int(whole + part), prior)
+            return Entry(int(row), told, caller, 0, 0, weighed)
     try:
         entry = read_words(line)
     except (ValueError, IndexError, KeyError) as fault:

@@ -7,16 +7,15 @@ import threading
 import time
 from collections.abc import Callable
 from datetime import UTC, datetime
-from typing import NamedTuple
 
 from hall_archive import checks, following, people
-from hall_archive.following import Behind, Follower, OtherBook, Unanswered, Unkept
+from hall_archive.following import Follower
 from hall_archive.persons import Persons
 from hall_archive.questions import Books
 from hall_archive.reading import NotRead, Reader
-from hall_archive.rows import bytes_of
 from hall_archive.store import Store
-from hall_archive.witness import Running, Witness, fingerprint
+from hall_archive.taking import Behind, OtherBook, Unanswered, Unkept
+from hall_archive.witness import Held, Running, Witness
 
 log = logging.getLogger("hall-archive")
 # Seconds between two looks for new lines of the front, and for new rows to be witnessed.
@@ -117,13 +116,6 @@ class People:
                 log.warning("the front has a line of no act: %s", one.fault)
 
 
-class Audit(NamedTuple):
-    """What `hall audit` says of the first rows of a book's file."""
-
-    rows: int
-    digest: str
-
-
 class Witnessing:
     """Keeps the witness of a book: at the start, at each closing, each minute with new rows, and
     nightly. At starts, closings and nights a line has the fingerprint of `hall audit` too, as soon
@@ -133,7 +125,7 @@ class Witnessing:
         self.store = store
         self.witness = witness
         self.reader = reader
-        self.running = Running()
+        self.running, self.held = Running(), Held()
         self.night = ""
         # how many rows the next fingerprint is of at least, where one is due; by how many rows the
         # program was asked for it last, and how often
@@ -144,6 +136,7 @@ class Witnessing:
         """Appends the lines that are due; an alarm where the book has other rows than the
         archive."""
         upto = self.store.cursor().upto
+        self.held.add(self.store.packed(self.held.rows, upto))
         if upto and (self.is_night(moment) or has_closed or self.running.rows == 0):
             self.due, self.asked = upto, 0
         if self.asked != upto:
@@ -163,11 +156,11 @@ class Witnessing:
         self.night = f"{now:%F}"
         return True
 
-    def hold(self, audit: Audit, moment: int) -> None:
+    def hold(self, audit: checks.Audit, moment: int) -> None:
         """Holds a fingerprint against the archive's rows; its line is put where it has as many rows
         as are due, and as the line before. One of other rows is an alarm, and gets no line."""
         assert self.due is not None
-        if audit.digest != self.fingerprint(audit.rows):
+        if audit.digest != self.held.fingerprint(audit.rows):
             why = f"the book's first {audit.rows} rows aren't those that were followed"
             self.store.alarm(moment, why)
             log.error("%s: %s", self.store.name, why)
@@ -178,25 +171,18 @@ class Witnessing:
 
     def put(self, rows: int, moment: int, audit: str) -> None:
         """Appends the line of so many rows."""
-        new = self.store.entries(self.running.rows, rows)
-        self.running.add(map(bytes_of, new))
+        self.held.go_on(self.running, rows)
         said = self.witness.append(moment, self.running.rows, self.running.hex(), audit)
         log.info("witness of %s: %s", self.store.name, said)
 
-    def audit(self, upto: int) -> Audit | None:
+    def audit(self, upto: int) -> checks.Audit | None:
         """The fingerprint of the book's first rows, `upto` at most; None without an answer."""
         try:
-            said = b"".join(self.reader.ask(self.store.name, "audit", str(upto))).decode("ascii")
+            audit = checks.audit_of(self.reader, self.store.name, upto)
         except NotRead as fault:
             log.warning("%s", fault)
             return None
-        words = dict(line.split(" ", 1) for line in said.splitlines() if " " in line)
-        rows = min(upto, int(words.get("rows", "0").split(" ")[0]))
-        return Audit(rows, words.get("sha256", "")) if rows else None
-
-    def fingerprint(self, rows: int) -> str:
-        """What `audit` has to say of so many rows, by those of the archive."""
-        return fingerprint(rows, map(bytes_of, self.store.entries(upto=rows)))
+        return audit if audit.rows else None
 
 
 class Checking:

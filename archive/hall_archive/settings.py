@@ -9,6 +9,8 @@
     port = 8490                          # where the pages ask, on 127.0.0.1
     stamps = "https://stamps.example/"   # who stamps the witness by RFC 3161; may be absent
     authority = "/etc/hall/stamps.pem"   #   and the certificate that those stamps are under
+    seal = "/etc/hall/seal.pem"          # the hall's certificate, under which appendices are
+    seal_key = "/etc/hall/seal.key"      #   sealed, and its key; may be absent
 
     [days]                               # may be absent: until evidence is too old
     scale = 1
@@ -34,7 +36,7 @@ LAST_PORT = 65_535
 # Days until evidence is too old, where the settings don't say.
 DAYS = {"scale": 1, "tare": 90, "density": 30, "uncertainty": 365}
 KEYS = {"database", "folder", "front", "read", "program", "books", "port", "days", "book"}
-KEYS |= {"stamps", "authority"}
+KEYS |= {"stamps", "authority", "seal", "seal_key"}
 
 
 class BadSettings(ValueError):
@@ -63,6 +65,8 @@ class Settings:
     port: int
     stamps: str
     authority: str
+    seal: str
+    seal_key: str
     days: dict[str, int]
     followed: tuple[BookSettings, ...]
 
@@ -127,6 +131,7 @@ def read_settings(text: str) -> Settings:
     names = [(one.hall, one.name) for one in followed]
     need(len(set(names)) == len(names), "a book is named twice")
     reads = text_of(table, "read", "")
+    need(("seal" in table) == ("seal_key" in table), "`seal` and `seal_key` go together")
     need(bool(reads) != ("program" in table), "it needs `read`, or `program` and `books`")
     return Settings(
         database=text_of(table, "database"),
@@ -138,6 +143,8 @@ def read_settings(text: str) -> Settings:
         port=number_of(table, "port", PORT, LAST_PORT),
         stamps=text_of(table, "stamps", ""),
         authority=text_of(table, "authority", ""),
+        seal=text_of(table, "seal", ""),
+        seal_key=text_of(table, "seal_key", ""),
         days={kind: number_of(days, kind, most, 36_500) for kind, most in DAYS.items()},
         followed=followed,
     )

@@ -52,16 +52,16 @@ def stamp_newest(witness: str, lines: list[Line], url: str, authority: str) -> s
     path = path_of(witness, number)
     is_there = os.path.exists(path)
     if not is_there:
-        stamp(witness, number, line, url, authority)
+        stamp(digest_of(str(line)), path, url, authority)
     already = " already" if is_there else ""
     return f"line {number} ({line.utc}) is stamped{already}: {time_of(path)}"
 
 
-def stamp(witness: str, number: int, line: Line, url: str, authority: str) -> None:
-    """Has a line of a witness stamped, and keeps the stamp where it holds."""
-    with tempfile.TemporaryDirectory(dir=os.path.dirname(witness)) as folder:
+def stamp(digest: str, path: str, url: str, authority: str) -> None:
+    """Has a SHA-256 stamped, and keeps the stamp at a path where it holds."""
+    with tempfile.TemporaryDirectory(dir=os.path.dirname(path)) as folder:
         query, reply = f"{folder}/query", f"{folder}/reply"
-        words = ("-query", "-sha256", "-digest", digest_of(str(line)), "-cert", "-out", query)
+        words = ("-query", "-sha256", "-digest", digest, "-cert", "-out", query)
         openssl(*words)
         with open(query, "rb") as asked, open(reply, "wb") as answer:
             answer.write(post(url, asked.read()))
@@ -69,7 +69,7 @@ def stamp(witness: str, number: int, line: Line, url: str, authority: str) -> No
             os.fsync(answer.fileno())
         # that it is of this query, with its number
         openssl("-verify", "-queryfile", query, "-in", reply, "-CAfile", authority)
-        os.replace(reply, path_of(witness, number))
+        os.replace(reply, path)
 
 
 def time_of(path: str) -> str:

@@ -7,33 +7,38 @@ from collections.abc import Callable, Iterator
 from contextlib import contextmanager
 from typing import Any
 
-from alembic import command
-from alembic.config import Config
-from sqlalchemy import create_engine, event, func, select, text
+from sqlalchemy import create_engine, event, func, inspect, select, text
 from sqlalchemy.engine import make_url
 from sqlalchemy.exc import DBAPIError, TimeoutError
 from sqlalchemy.pool import QueuePool
 
-from hall_archive import nets, schema
+from hall_archive import schema
 from hall_archive.clock import Clock
-from hall_archive.following import Cursor, Taken, Unkept
 from hall_archive.keeping import Keeper
-from hall_archive.rows import MAX_ROWS, PRIORS, SIGNALS, Entry, Weigh, line_of, read_line
+from hall_archive.resuming import Resuming
+from hall_archive.rows import (
+    MAX_ROWS,
+    PRIORS,
+    SIGNALS,
+    Entry,
+    Weigh,
+    bytes_of,
+    line_of,
+    read_line,
+    weighing_bytes,
+)
+from hall_archive.standing import Standing
+from hall_archive.taking import Cursor, Taken, Unkept
 
 MIGRATIONS = os.path.join(os.path.dirname(os.path.abspath(__file__)), "migrations")
 # Seconds that a writer of SQLite waits for another.
 BUSY = 30
 # Rows that are read from the database at once.
 CHUNK = 8_192
+PackFields = tuple[int, int, int, int, int, int]
 WEIGHINGS = """
     SELECT row, by, lane, gross, prior, signal FROM pack
     WHERE book = %d AND row > %d AND row <= %d ORDER BY row"""
-# by the range of each open batch, so that the closed ones cost nothing
-OPEN_WEIGHINGS = """
-    SELECT p.row, p.by, p.lane, p.gross, p.prior, p.signal FROM batch b
-    JOIN pack p ON p.book = b.book AND p.row BETWEEN b.first AND b.last AND p.batch = b.row
-    WHERE b.book = %d AND p.row > %d AND p.row <= %d AND b.state <> 'closed' AND b.first > 0
-    ORDER BY p.row"""
 
 
 def open_engine(url: Any, writes: bool = False) -> Any:
@@ -61,13 +66,30 @@ def open_engine(url: Any, writes: bool = False) -> Any:
 
 
 def migrate(engine: Any) -> None:
-    """Brings the tables to their newest form."""
+    """Brings the tables to their newest form; alembic, whose parts take long to load, only where
+    they haven't it."""
+    if is_newest(engine):
+        return
+    from alembic import command
+    from alembic.config import Config
+
     logging.getLogger("alembic").setLevel(logging.WARNING)
     config = Config()
     config.set_main_option("script_location", MIGRATIONS)
     with engine.begin() as link:
         config.attributes["connection"] = link
         command.upgrade(config, "head")
+
+
+def is_newest(engine: Any) -> bool:
+    """Whether the last migration was done: each begins with its number."""
+    newest = max(name for name in os.listdir(f"{MIGRATIONS}/versions") if name.endswith(".py"))[:4]
+    with reaching(engine.connect) as link:
+        if not inspect(link).has_table("alembic_version"):
+            return False
+        return bool(
+            link.execute(text("SELECT version_num FROM alembic_version")).scalar() == newest
+        )
 
 
 @contextmanager
@@ -134,26 +156,13 @@ class Store:
                 schema.book.update().where(schema.book.c.id == self.book).values(refused=why)
             )
 
-    def closed(self) -> set[str]:
-        """The names of the batches that are closed."""
-        table = schema.batch.c
-        with reaching(self.reads.connect) as link:
-            rows = link.execute(
-                select(table.name).where(table.book == self.book, table.state == "closed")
-            )
-            return {name for (name,) in rows}
-
-    def resume(self) -> nets.Book:
-        """The book as it was left, without the packs of closed batches."""
-        return nets.resume(self.entries_but_of_closed(), self.closed())
-
-    def entries_but_of_closed(self) -> Iterator[Entry]:
-        """All rows, in order, without the weighings of closed batches."""
-        return merged(self.acts(), self.weighings(OPEN_WEIGHINGS))
+    def standing(self, upto: int) -> Standing:
+        """The book behind the rows that were taken."""
+        return Resuming(self.reads, reaching, self.book).standing(upto)
 
     def entries(self, after: int = 0, upto: int = MAX_ROWS) -> Iterator[Entry]:
         """Rows behind `after` up to `upto`, in order."""
-        return merged(self.acts(after, upto), self.weighings(after=after, upto=upto))
+        return merged(self.acts(after, upto), self.weighings(after, upto))
 
     def lines(self, after: int, upto: int) -> list[str]:
         """The lines of some rows, as the book has them."""
@@ -168,20 +177,31 @@ class Store:
             lines = [line for (line,) in link.execute(wanted.order_by(table.row))]
         return map(read_line, lines)
 
-    def weighings(
-        self,
-        statement: str = WEIGHINGS,
-        after: int = 0,
-        upto: int = MAX_ROWS,
-    ) -> Iterator[Entry]:
-        """Weighings, in order, a chunk at a time."""
+    def weighings(self, after: int = 0, upto: int = MAX_ROWS) -> Iterator[Entry]:
+        """Weighings, in order."""
+        for row, by, lane, gross, prior, signal in self.packs(after, upto):
+            yield Entry(row, SIGNALS[signal], by, 0, 0, Weigh(lane, gross, PRIORS[prior]))
+
+    def packs(self, after: int, upto: int) -> Iterator[PackFields]:
+        """The same as they are kept, a chunk at a time."""
+        statement = WEIGHINGS % (self.book, after, upto)
         with reaching(self.reads.connect) as link:
             found = link.execution_options(stream_results=True, yield_per=CHUNK)
-            for row, by, lane, gross, prior, signal in found.exec_driver_sql(
-                statement % (self.book, after, upto)
-            ):
-                weighed = Weigh(lane, gross, PRIORS[prior])
-                yield Entry(row, SIGNALS[signal], by, 0, 0, weighed)
+            yield from found.exec_driver_sql(statement)
+
+    def packed(self, after: int, upto: int) -> Iterator[bytes]:
+        """The bytes of rows behind `after` up to `upto`, in order: past the entries of weighings,
+        which are most of a book."""
+        acts = self.acts(after, upto)
+        act = next(acts, None)
+        for row, by, lane, gross, prior, signal in self.packs(after, upto):
+            while act and act.row < row:
+                yield bytes_of(act)
+                act = next(acts, None)
+            yield weighing_bytes(row, by, lane, gross, prior, signal)
+        if act:
+            yield bytes_of(act)
+            yield from map(bytes_of, acts)
 
     # ---- what a follower keeps
 

@@ -11,7 +11,6 @@ from fastapi.responses import JSONResponse, PlainTextResponse, StreamingResponse
 
 from hall_archive import evidence, nets, store
 from hall_archive.evidence import BadEvidence, Record
-from hall_archive.following import Unkept
 from hall_archive.reading import NAME
 from hall_archive.records import Records
 from hall_archive.rows import MAX_ROWS
@@ -19,6 +18,7 @@ from hall_archive.packs import Wanted
 from hall_archive.search import Search
 from hall_archive.settings import Settings
 from hall_archive.spans import BadQuestion, Behind, Time
+from hall_archive.taking import Unkept
 
 # Texts of a question: names of books, batches, products, persons.
 Word = Query(default="", max_length=64)

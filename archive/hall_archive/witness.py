@@ -102,6 +102,32 @@ class Running:
         return self.digest.hexdigest()
 
 
+class Held:
+    """The rows of a book in memory, 96 MB a million: a fingerprint begins with how many rows it is
+    of, so that each is made of all of them."""
+
+    def __init__(self) -> None:
+        self.body = bytearray()
+
+    @property
+    def rows(self) -> int:
+        return len(self.body) // ROW_BYTES
+
+    def add(self, rows: Iterable[bytes]) -> None:
+        for row in rows:
+            self.body += row
+
+    def fingerprint(self, rows: int) -> str:
+        """What `audit` has to say of the first so many rows."""
+        with memoryview(self.body)[: rows * ROW_BYTES] as first:
+            return fingerprint(rows, [first])
+
+    def go_on(self, running: Running, rows: int) -> None:
+        """Goes on with a digest up to so many rows."""
+        with memoryview(self.body)[running.rows * ROW_BYTES : rows * ROW_BYTES] as more:
+            running.add([more])
+
+
 class Witness:
     """A file of lines, that is only ever appended to."""
 

@@ -15,8 +15,9 @@ from small_book import LINES, long_book
 from hall_archive import following
 from hall_archive.clock import Moment
 from hall_archive.door import Door
-from hall_archive.following import Behind, Follower, OtherBook, Spool, Unanswered
+from hall_archive.following import Follower, Spool
 from hall_archive.rows import PAGE_ROWS
+from hall_archive.taking import Behind, OtherBook, Unanswered
 
 
 class Following(unittest.TestCase):
@@ -63,7 +64,7 @@ class Following(unittest.TestCase):
         self.follower().step()
         [taken] = self.archive.kept
         self.assertEqual((taken.after, taken.upto), (0, 17))
-        self.assertEqual(taken.packs[2], ((8, 4, 20_150, 241_900, 1), (1, 2, 3)))
+        self.assertEqual(taken.packs[2], (8, 4, 20_150, 241_900, 1, 1, 2, 3))
         [batch] = taken.batches
         self.assertEqual(batch, (4, "A", "rice250", "drawn", "", 6, 11, None))
         self.assertEqual(taken.acts[4][:4], (5, 4, None, "start"))
@@ -137,7 +138,7 @@ class Following(unittest.TestCase):
                 pass
         self.assertEqual(self.archive.text(), text)
         assert follower
-        self.assertEqual(list(follower.book.packs), [23, 24])
+        self.assertEqual(list(follower.standing.batches), ["B"])
         moves = [move for taken in self.archive.kept for move in taken.moves]
         self.assertEqual(len({move.pack for move in moves}), len(moves))
 

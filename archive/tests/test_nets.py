@@ -2,50 +2,20 @@
 
 import unittest
 
+from memory_archive import kept
 from small_book import LINES, REGISTER, SHEET
 
 from hall_archive import nets, rules
-from hall_archive.rows import read_text
-
-
-def book_of(text: str) -> nets.Book:
-    book = nets.Book()
-    for entry in read_text(text, 0):
-        book.take(entry)
-    return book
+from hall_archive.standing import WrongBook
 
 
 class Books(unittest.TestCase):
-    """A small book, worked out by hand."""
+    """A small book, worked out by hand, by what a follower keeps of it."""
 
     def test_register_and_sheet(self) -> None:
-        book = book_of(LINES)
-        self.assertEqual("".join(nets.register(book.packs.values())), REGISTER)
-        self.assertEqual(nets.sheet(book.batches["A"]), SHEET)
-
-    def test_moves(self) -> None:
-        book, moves = nets.Book(), []
-        for entry in read_text(LINES, 0):
-            moves += book.take(entry)
-        told = [(move.pack, move.pile, move.row) for move in moves]
-        self.assertEqual(told[:2], [(7, "rejected", 8), (10, "voided", 13)])
-        self.assertEqual(sorted(told[2:]), [(pack, "sampled", 16) for pack in (6, 9, 11)])
-
-    def test_what_cant_follow(self) -> None:
-        for lines in (
-            "1 ok\tscript\tvoid 5\n",
-            "1 ok\tscript\ttare rice 2025-03-03 10.000\n",
-            "1 ok\tlane 1\tstop 1 none\n",
-            LINES + "18 ok\tlane 1\tstart 1 A\n19 ok\tlane 1\tstop 1 stayed\n",
-        ):
-            with self.assertRaises(nets.WrongBook, msg=lines):
-                book_of(lines)
-
-    def test_left_out_batches(self) -> None:
-        entries = read_text(LINES + "18 ok\tscript\tday 2025-03-04\n", 0)
-        kept = [entry for entry in entries if not 6 <= entry.row <= 11]
-        book = nets.resume(kept, {"A"})
-        self.assertEqual((book.packs, book.lanes, book.day), ({}, {}, 20151))
+        batch = kept(LINES).batch("A")
+        self.assertEqual("".join(nets.register(batch.packs.values())), REGISTER)
+        self.assertEqual(nets.sheet(batch), SHEET)
 
     def test_a_tare_holds_up_to_the_next_day_with_one(self) -> None:
         goods = nets.Goods("rice", 250_000, False)
@@ -53,7 +23,7 @@ class Books(unittest.TestCase):
             goods.put(day, tare)
         found = [goods.tare(day) for day in (10, 14, 15, 19, 20, 999)]
         self.assertEqual(found, [110, 110, 150, 150, 200, 200])
-        with self.assertRaises(nets.WrongBook):
+        with self.assertRaises(WrongBook):
             goods.tare(9)
 
 

@@ -11,6 +11,7 @@ from small_book import LINES
 from hall_archive.rows import bytes_of, read_text
 from hall_archive.witness import (
     Differs,
+    Held,
     Running,
     Witness,
     check,
@@ -43,6 +44,18 @@ class Lines(unittest.TestCase):
             said.append(witness.append(MOMENT + 60_000 * place, rows, running.hex(), audit))
             witness = Witness(self.path)
         return said
+
+    def test_held_rows(self) -> None:
+        held, running = Held(), Running()
+        for rows in (5, 5, 12, 17):
+            held.add(ROWS[held.rows : rows])
+            held.go_on(running, rows)
+            self.assertEqual(running.hex(), hashlib.sha256(BODY[: rows * 96]).hexdigest())
+            self.assertEqual((held.rows, running.rows), (rows, rows))
+        for rows in (1, 12, 17):
+            head = b"AQHSHIP2" + rows.to_bytes(4, "little") + bytes(4)
+            due = hashlib.sha256(head + BODY[: rows * 96]).hexdigest()
+            self.assertEqual(held.fingerprint(rows), due)
 
     def test_what_a_line_says(self) -> None:
         first, second, _ = self.write()
