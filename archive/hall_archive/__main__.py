@@ -14,6 +14,9 @@ usage: hall-archive [--settings PATH] COMMAND
     serve                 answers the pages, for its service
     read                  answers one question of standard input, for hall-archive-read
     openapi               prints the description of what `serve` answers
+    sum BOOK              makes the sums of a book for reports anew from its rows
+    report DAYS [BY]      prints a report by shift, day, week, month, product, lane, hall or book, as
+                          `report 2026-12 shift --form pdf`; DAYS may be 2026-12-01..2026-12-07
 
 BOOK is a name of the settings, as 2026-12, or HALL/NAME where several halls have one of it.
 Status 1: something differs; 2: the words or the settings are faulty; 3: the database, the program
@@ -43,7 +46,14 @@ def words_of(arguments: list[str]) -> argparse.Namespace:
     parser.add_argument("command", choices=COMMANDS)
     parser.add_argument("book", nargs="?", default="")
     parser.add_argument("batch", nargs="?", default="")
+    parser.add_argument("--form", default="json", choices=("json", "csv", "pdf", "xlsx"))
+    parser.add_argument("--language", default="en", choices=("en", "de"))
+    parser.add_argument("--lane", type=int, default=0)
+    for word in ("hall", "product", "name"):
+        parser.add_argument(f"--{word}", default="")
     words = parser.parse_args(arguments)
+    if words.command == "report" and words.book:
+        return words
     wanted = 1 + (words.command in OF_A_BOOK) + (words.command in OF_A_BATCH)
     given = 1 + bool(words.book) + bool(words.batch)
     if wanted != given:
@@ -68,11 +78,24 @@ def by_database(name: str) -> Command:
     return run
 
 
+def by_months(name: str) -> Command:
+    """A command of reports and months, in the same way."""
+
+    def run(found: Settings, book: str, batch: str) -> int:
+        from hall_archive import month_commands
+
+        command: Command = getattr(month_commands, name)
+        return command(found, book, batch)
+
+    return run
+
+
 OF_A_BATCH = ("sheet", "story")
-OF_A_BOOK = ("follow", "take", "register", "check", "verify", "stamp", *OF_A_BATCH)
+OF_A_BOOK = ("follow", "take", "register", "check", "verify", "stamp", "sum", *OF_A_BATCH)
 COMMANDS: dict[str, Command] = {
     "read": read_one,
     **{name: by_database(name) for name in ("migrate", "serve", "openapi", *OF_A_BOOK)},
+    **{name: by_months(name) for name in ("sum", "report")},
 }
 
 
@@ -80,7 +103,12 @@ def main(arguments: list[str]) -> int:
     words = words_of(arguments)
     logging.basicConfig(level=logging.INFO, format="hall-archive: %(message)s", stream=sys.stderr)
     try:
-        return COMMANDS[words.command](settings.load(words.settings), words.book, words.batch)
+        found = settings.load(words.settings)
+        if words.command == "report":
+            from hall_archive import month_commands
+
+            return month_commands.report(found, words)
+        return COMMANDS[words.command](found, words.book, words.batch)
     except BadSettings as fault:
         print(f"hall-archive: {fault}", file=sys.stderr)
         return FAULTY

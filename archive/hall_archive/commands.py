@@ -14,6 +14,7 @@ from hall_archive import checks, nets, stamps, store, witness
 from hall_archive.door import Door
 from hall_archive.appending import whole_lines
 from hall_archive.following import COMMIT_ROWS, Follower, OtherBook, Page, Spool, Unkept
+from hall_archive.months import Months
 from hall_archive.questions import Books
 from hall_archive.reading import Reader, at_rest
 from hall_archive.rows import line_of
@@ -93,6 +94,7 @@ def beside(
     people = People(kept, settings.front) if settings.front else None
     witnessing = witnessing_of(settings, book, kept, reader)
     checking = Checking(kept, Books(store.open_engine(settings.database)), reader)
+    months = Months(kept, settings.front)
     said, next_witness, goes_on = Said(), 0.0, True
     while goes_on:
         goes_on = thread.is_alive() and not following.stop.wait(PEOPLE_EVERY)
@@ -109,6 +111,7 @@ def beside(
                 if witnessing:
                     witnessing.look(bool(closed), moment)
                 checking.look(moment)
+            months.look(now=not goes_on)
             said.good("goes on")
         except (Unkept, OSError) as fault:
             said.fault(f"{book.name}: {fault}")
@@ -163,6 +166,7 @@ def take(settings: Settings, word: str, _: str) -> int:
         refuse(kept, why)
     rows = at_rest(reader, lambda: take_rest(kept, reader))
     print(f"rows {rows} taken")
+    Months(kept, settings.front).look(now=True)
     return check(settings, word, "")
 
 

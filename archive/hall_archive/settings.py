@@ -9,6 +9,8 @@
     port = 8490                          # where the pages ask, on 127.0.0.1
     stamps = "https://stamps.example/"   # who stamps the witness by RFC 3161; may be absent
     authority = "/etc/hall/stamps.pem"   #   and the certificate that those stamps are under
+    central = "postgresql://archive.example/hall_archive"   # the archive of several halls, which
+                                         #   is given all that is new; may be absent
 
     [days]                               # may be absent: until evidence is too old
     scale = 1
@@ -20,13 +22,15 @@
     hall = "main"                        # books of one hall have one evidence
     name = "2026-12"
     door = 8473                          # its door for the archive; absent of a book at rest
-"""
+
+`[reports]` is in `report_settings`."""
 
 import tomllib
 from dataclasses import dataclass
 from typing import Any
 
 from hall_archive.reading import NAME, Program, Reader, Socket
+from hall_archive.report_settings import BadReports, ReportSettings, read_reports
 
 PATH = "/etc/hall/archive.toml"
 PORT = 8_490
@@ -34,7 +38,7 @@ LAST_PORT = 65_535
 # Days until evidence is too old, where the settings don't say.
 DAYS = {"scale": 1, "tare": 90, "density": 30, "uncertainty": 365}
 KEYS = {"database", "folder", "front", "read", "program", "books", "port", "days", "book"}
-KEYS |= {"stamps", "authority"}
+KEYS |= {"stamps", "authority", "reports", "central"}
 
 
 class BadSettings(ValueError):
@@ -65,6 +69,8 @@ class Settings:
     authority: str
     days: dict[str, int]
     followed: tuple[BookSettings, ...]
+    reports: ReportSettings
+    central: str
 
     def book(self, name: str, hall: str = "") -> BookSettings:
         """The book of a name, of a hall where several halls have one of it."""
@@ -140,7 +146,16 @@ def read_settings(text: str) -> Settings:
         authority=text_of(table, "authority", ""),
         days={kind: number_of(days, kind, most, 36_500) for kind, most in DAYS.items()},
         followed=followed,
+        reports=reports_of(table.get("reports", {})),
+        central=text_of(table, "central", ""),
     )
+
+
+def reports_of(table: dict[str, Any]) -> ReportSettings:
+    try:
+        return read_reports(table)
+    except BadReports as fault:
+        raise BadSettings(str(fault)) from fault
 
 
 def load(path: str) -> Settings:
