@@ -36,7 +36,10 @@ table { border-collapse: collapse; width: 100%; }
 th, td { text-align: right; padding: .7mm 1.2mm; border-bottom: .2mm solid #d4d9d9; }
 th { font-size: 7pt; font-weight: bold; vertical-align: bottom; border-bottom: .4mm solid #6b7675; }
 th:first-child, td:first-child, .text { text-align: left; }
-td.rows { font-size: 6.5pt; color: #55605f; text-align: left; }
+small { display: block; font-size: 6pt; font-weight: normal; color: #55605f; }
+table.wide { table-layout: fixed; font-size: 7.5pt; }
+table.wide th { font-size: 6pt; hyphens: auto; overflow-wrap: anywhere; }
+table.wide :is(th, td):first-child { width: 14%; }
 thead { display: table-header-group; }
 tr { break-inside: avoid; }
 tr.sum td { border-top: .4mm solid #6b7675; font-weight: bold; }
@@ -209,16 +212,17 @@ class Words:
     # ---- tables
 
     def lines(self) -> str:
-        heads = [self.say(self.report["by"]), *map(self.say, LINE), self.say("rows")]
+        heads = [f"{self.say(self.report['by'])} <small>{self.say('rows')}</small>"]
+        heads += map(self.say, LINE)
         body = [self.line(said(one["name"], self.language), one) for one in self.report["lines"]]
         body.append(self.line(said("total", self.language), self.report["total"], "sum"))
         head = self.row("th", heads)
-        return f"<h2>{self.say('lines')}</h2>{self.table(head, body)}"
+        return f"<h2>{self.say('lines')}</h2>{self.table(head, body, 'wide')}"
 
     def line(self, name: str, one: dict[str, Any], kind: str = "") -> str:
-        cells = [escape(name), *(self.spell(key, one[key]) for key in LINE)]
         rows = escape(sources(one["rows"], self.halls)) if kind != "sum" else ""
-        return self.row("td", cells, kind, f'<td class="rows">{rows}</td>')
+        first = f"{escape(name)} <small>{rows}</small>"
+        return self.row("td", [first, *(self.spell(key, one[key]) for key in LINE)], kind)
 
     def batches(self) -> str:
         found, closed = self.report["batches"], self.report["closed"]
@@ -255,6 +259,6 @@ class Words:
         inner = "".join(f"<{kind}>{cell}</{kind}>" for cell in cells)
         return f'<tr class="{name}">{inner}{more}</tr>'
 
-    def table(self, head: str, body: list[str]) -> str:
+    def table(self, head: str, body: list[str], kind: str = "") -> str:
         top = f"<thead>{head}</thead>" if head else ""
-        return f"<table>{top}<tbody>{''.join(body)}</tbody></table>"
+        return f'<table class="{kind}">{top}<tbody>{"".join(body)}</tbody></table>'
