@@ -33,7 +33,8 @@ addWords({
 });
 
 const state = { by: "day", first: "", last: "" };
-const percent = (share) => (share === null ? "–" : `${fixed(share, 2, true)} %`);
+const percent = (share, isSigned = true) => (share === null ? "–"
+  : `${fixed(share, 2, isSigned)} %`);
 
 async function ask(path) {
   const answer = await reach(`archive/${path}`);
@@ -45,7 +46,8 @@ const wordsOf = (form) => new URLSearchParams({ first: state.first, last: state.
   language: LANGUAGE ? "de" : "en" });
 
 function headFacts({ total, currency, closed }) {
-  const share = (part) => say("ofPacks", { share: percent(100 * part / total.readings) });
+  const share = (part) => say("ofPacks", { share: percent(100 * part / total.readings,
+    false) });
   return make("div", { className: "panel" }, facts([
     [say("f.packed"), mass(total.net), say("f.packs", { count: count(total.population) })],
     [say("f.over"), mass(total.over, true), percent(total.share)],
@@ -148,7 +150,8 @@ async function load() {
 }
 
 function field(name, label) {
-  const input = make("input", { id: `r-${name}`, type: "date", value: state[name], required: true });
+  const input = make("input", { id: `r-${name}`, type: "date", value: state[name],
+    required: true });
   input.addEventListener("change", () => {
     state[name] = input.value;
     load();
@@ -167,7 +170,8 @@ function periods() {
     });
     return button;
   });
-  return make("div", { className: "choice", role: "group", "aria-label": say("reportBy") }, buttons);
+  return make("div", { className: "choice", role: "group", "aria-label": say("reportBy") },
+    buttons);
 }
 
 const today = () => new Date(Date.now() - new Date().getTimezoneOffset() * 60_000)

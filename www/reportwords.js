@@ -77,5 +77,6 @@ export const rowsOf = (rows, halls) => rows.map((one) => `${halls.length > 1 ? `
 export function batchLink({ hall, book, batch }, halls = []) {
   const name = halls.length > 1 ? `${hall}~${book}` : book;
   const link = (page, text) => make("a", { href: `#${page}/${batch}/${name}` }, text);
-  return make("span", {}, link("batch", batch), " ", make("small", {}, link("sheet", say("sheet"))));
+  return make("span", {}, link("batch", batch), " ",
+    make("small", {}, link("sheet", say("sheet"))));
 }

@@ -1,6 +1,6 @@
-// Search over all books: batches by the beginning of their names, product, verdict, days and person;
-// a number finds packs. A batch of any book leads to its page and its sheet as they were. Without an
-// archive the page says so.
+// Search over all books: batches by the beginning of their names, product, verdict, days and
+// person; a number finds packs. A batch of any book leads to its page and its sheet as they were.
+// Without an archive the page says so.
 
 import { addWords, say } from "./words.js";
 import { batchLink } from "./reportwords.js";
@@ -22,7 +22,8 @@ addWords({
   "s.any": ["any", "alle"],
   "s.go": ["Search", "Suchen"],
   "s.found": ["{count} batches, the newest first", "{count} Chargen, die neuesten zuerst"],
-  "s.most": ["The newest {count} batches; ask closer", "Die neuesten {count} Chargen; enger fragen"],
+  "s.most": ["The newest {count} batches; ask closer",
+    "Die neuesten {count} Chargen; enger fragen"],
   "s.packs": ["Packs of this number", "Packungen dieser Nummer"],
   "s.nothing": ["No batch and no pack is like that.", "Keine Charge und keine Packung ist so."],
   "s.bad": ["The archive can't be asked so.", "So kann das Archiv nicht gefragt werden."],

@@ -8,7 +8,7 @@ from hall_archive import nets
 from hall_archive.nets import PILES, Batch, Pack
 from hall_archive.papers import Drawn, in_order, paper
 from hall_archive.questions import Books
-from hall_archive.rows import PAGE_ROWS, Draw, Second, grams, read_line
+from hall_archive.rows import PAGE_ROWS, SIGNALS, Draw, Second, grams, read_line
 from hall_archive.spans import BadQuestion
 
 STATES = ("running", "ended", "drawn", "closed")
@@ -70,11 +70,24 @@ class Old(Books):
 
     def packs(self, book: int, name: str, above: int) -> str:
         """The packs of a batch above a number, a page of them."""
-        batch = self.batch(book, name)
-        if batch is None:
+        found = self.ask(
+            "SELECT row, last FROM batch WHERE book = :book AND name = :name", book=book, name=name
+        )
+        if not found:
             raise BadQuestion(f"there is no batch {name!r}")
-        found = [pack for row, pack in sorted(batch.packs.items()) if row > above]
-        return "".join(map(pack_line, found[:PAGE_ROWS]))
+        row, last = found[0]
+        batch = self.batches_of(book, self.goods(book))[row]
+        packs = self.ask(
+            f"""SELECT p.row, p.day, p.gross, p.lane, p.signal, m.pile
+            FROM pack p LEFT JOIN move m ON m.book = p.book AND m.pack = p.row
+            WHERE p.book = :book AND p.row > :above AND p.row <= :last AND p.batch = :batch
+            ORDER BY p.row LIMIT {PAGE_ROWS}""",
+            book=book,
+            above=max(above, row),
+            last=last,
+            batch=row,
+        )
+        return "".join(pack_line(pack_of(batch, one)) for one in packs)
 
     def rows(self, book: int) -> int:
         return int(self.ask("SELECT upto FROM book WHERE id = :book", book=book)[0][0])
@@ -98,6 +111,13 @@ class Old(Books):
         lines += [f"{pile} {counts[pile]} gross {grams(grosses[pile])}" for pile in PILES]
         lines.append("batches " + " ".join(f"{one} {states.get(one, 0)}" for one in STATES))
         return "".join(f"{line}\n" for line in lines)
+
+
+def pack_of(batch: Batch, found: Any) -> Pack:
+    row, day, gross, lane, signal, pile = found
+    told = SIGNALS[signal]
+    where = nets.first_pile(told) if pile is None else PILES[pile]
+    return Pack(row, batch, day, gross, lane, told, where)
 
 
 def pack_line(pack: Pack) -> str:
