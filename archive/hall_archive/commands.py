@@ -11,6 +11,7 @@ from collections.abc import Iterator
 from typing import Any
 
 from hall_archive import checks, nets, stamps, store, witness
+from hall_archive.delivering import Delivery
 from hall_archive.door import Door
 from hall_archive.appending import whole_lines
 from hall_archive.following import COMMIT_ROWS, Follower, OtherBook, Page, Spool, Unkept
@@ -94,7 +95,7 @@ def beside(
     people = People(kept, settings.front) if settings.front else None
     witnessing = witnessing_of(settings, book, kept, reader)
     checking = Checking(kept, Books(store.open_engine(settings.database)), reader)
-    months = Months(kept, settings.front)
+    months = Months(kept, settings.front, settings.central)
     said, next_witness, goes_on = Said(), 0.0, True
     while goes_on:
         goes_on = thread.is_alive() and not following.stop.wait(PEOPLE_EVERY)
@@ -111,10 +112,11 @@ def beside(
                 if witnessing:
                     witnessing.look(bool(closed), moment)
                 checking.look(moment)
-            months.look(now=not goes_on)
+            months.look()
             said.good("goes on")
         except (Unkept, OSError) as fault:
             said.fault(f"{book.name}: {fault}")
+    months.end()
 
 
 def witnessing_of(
@@ -167,6 +169,8 @@ def take(settings: Settings, word: str, _: str) -> int:
     rows = at_rest(reader, lambda: take_rest(kept, reader))
     print(f"rows {rows} taken")
     Months(kept, settings.front).look(now=True)
+    if settings.central:
+        print(f"rows {Delivery(kept, settings.central).all()} delivered")
     return check(settings, word, "")
 
 

@@ -72,11 +72,13 @@ class Delta:
 
 
 class Rows(Books):
-    """What sums are made of, of one book."""
+    """What sums are made of, of one book. `sums` is where they are kept, where that is another
+    database than that of the rows."""
 
-    def __init__(self, engine: Any, book: int) -> None:
+    def __init__(self, engine: Any, book: int, sums: "Rows | None" = None) -> None:
         super().__init__(engine)
         self.book = book
+        self.sums = sums or self
 
     def all(self, statement: str, **values: Any) -> list[Any]:
         return self.ask(statement, book=self.book, **values)
@@ -153,7 +155,7 @@ class Rows(Books):
 
     def summed_days(self, product: str, day: int) -> list[tuple[int, int]]:
         """The batches of a product with packs on a day or later that are summed, with those days."""
-        found = self.all(
+        found = self.sums.all(
             """SELECT DISTINCT q.batch, q.day FROM quarter q
             JOIN opening o ON o.book = q.book AND o.batch = q.batch
             WHERE q.book = :book AND o.product = :product AND q.day >= :day""",
