@@ -2,15 +2,21 @@
 
 import argparse
 import json
+import os
+import re
 import sys
 from typing import Any
 
-from hall_archive import store
+from hall_archive import kept_folder, report_forms, store
 from hall_archive.commands import found_book, opened
+from hall_archive.keeping_month import Month, NotKept
+from hall_archive.papers import NotDrawn
 from hall_archive.periods import BadPeriod, period_of
 from hall_archive.reports import Asked, Report, Reports
 from hall_archive.settings import BadSettings, Settings
 from hall_archive.summing import Summing
+
+MONTH = re.compile(r"\d{4}-\d\d")
 
 
 def sum(settings: Settings, word: str, _: str) -> int:
@@ -18,6 +24,25 @@ def sum(settings: Settings, word: str, _: str) -> int:
     _books, number, book = found_book(settings, word)
     engine = opened(settings)
     Summing(engine, store.open_engine(settings.database), number, book.name).anew()
+    return 0
+
+
+def keep(settings: Settings, words: argparse.Namespace) -> int:
+    """Keeps a month in a folder of --into, or of `kept` beside the witnesses."""
+    into = words.into or f"{settings.folder}/kept"
+    try:
+        if not MONTH.fullmatch(words.book):
+            raise BadSettings(f"{words.book!r} is no month, as 2026-12")
+        os.makedirs(into, exist_ok=True)
+        month = Month(settings, words.book, period_of(words.book), into)
+        digest = month.keep()
+    except (BadPeriod, OSError) as fault:
+        raise BadSettings(str(fault)) from fault
+    except (NotKept, NotDrawn) as fault:
+        print(f"hall-archive: {words.book}: {fault}", file=sys.stderr)
+        return 1
+    print(f"{month.folder}: {kept_folder.verify(month.folder)}")
+    print(f"sha256 of its {kept_folder.DIGESTS}: {digest}")
     return 0
 
 
@@ -32,8 +57,6 @@ def report(settings: Settings, words: argparse.Namespace) -> int:
     if words.form == "json":
         print(json.dumps(found.shown(), indent=1))
         return 0
-    from hall_archive import report_forms
-
     sys.stdout.flush()
     sys.stdout.buffer.write(report_forms.made(words.form, found.shown(), words.language))
     sys.stdout.buffer.flush()
