@@ -189,7 +189,9 @@ def compare(site: Site, central: Central) -> None:
     ):
         ours, theirs = (asked(one, what.format(one.book)) for one in (site.kept, there))
         need(ours == theirs, f"{site.hall}: {what}: {ours[:2]} and {theirs[:2]}")
-    chain = f"SELECT kind, subject, before, digest FROM evidence WHERE hall = '{site.hall}' ORDER BY id"
+    chain = (
+        f"SELECT kind, subject, before, digest FROM evidence WHERE hall = '{site.hall}' ORDER BY id"
+    )
     need(asked(site.kept, chain) == asked(there, chain), f"{site.hall}: other evidence")
 
 
@@ -238,7 +240,9 @@ def several(folder: str, seed: str) -> str:
         parts_of(central)
         replicated(central)
         rows = sum(site.source.shown for site in sites)
-        return f"{SITES} halls, {rows} rows there once, {AN_HOUR} of an hour without a line caught up"
+        return (
+            f"{SITES} halls, {rows} rows there once, {AN_HOUR} of an hour without a line caught up"
+        )
     finally:
         central.end()
 

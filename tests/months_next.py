@@ -22,7 +22,7 @@ CARRIED = ("day", "product", "tare")
 OPEN, UNFIT = 1, 2
 PORT = 22_471
 DOORS = 2
-STEPS = 400
+STEPS = 1_500
 
 
 class Halls:
