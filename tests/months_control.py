@@ -27,38 +27,36 @@ def settings(name: str) -> dict[str, str]:
 
 
 def begin(name: str) -> None:
-    known = settings(name)
-    if is_active(f"hall@{name}"):
-        return
-    for left in ("lanes.txt",):
-        if os.path.exists(f"{known['SHOWN']}/{left}"):
-            os.remove(f"{known['SHOWN']}/{left}")
-    with open(f"{ROOM}/etc/{name}.toml", "rb") as plan, open(f"{ROOM}/log", "ab") as log:
-        run = subprocess.Popen(
-            [f"{TOP}/deploy/start", name],
-            stdin=plan,
-            stdout=log,
-            stderr=log,
-            env=known,
-            start_new_session=True,
-        )
+    """Begins a hall, and waits until it serves. One that a killed caller began is waited for."""
+    known, unit = settings(name), f"hall@{name}"
+    shown = f"{known['SHOWN']}/lanes.txt"
+    if not is_active(unit):
+        if os.path.exists(shown):
+            os.remove(shown)
+        words = ["sh", "-c", f"echo $$ >'{ROOM}/units/{unit}.pid'; exec \"$@\"", "sh"]
+        with open(f"{ROOM}/etc/{name}.toml", "rb") as plan, open(f"{ROOM}/log", "ab") as log:
+            subprocess.Popen(
+                [*words, f"{TOP}/deploy/start", name],
+                stdin=plan,
+                stdout=log,
+                stderr=log,
+                env=known,
+                start_new_session=True,
+            )
+        time.sleep(0.1)
     end = time.monotonic() + PATIENCE
-    while not os.path.exists(f"{known['SHOWN']}/lanes.txt"):
-        if run.poll() is not None or time.monotonic() > end:
-            sys.exit(f"hall@{name} doesn't serve: {run.returncode}")
+    while not os.path.exists(shown):
+        if not is_active(unit) or time.monotonic() > end:
+            sys.exit(f"{unit} doesn't serve")
         time.sleep(0.02)
 
 
 def is_active(unit: str) -> bool:
-    kind, _, name = unit.removesuffix(".service").partition("@")
-    if kind == "hall":
-        path = f"{ROOM}/run/{name}/pid"
-    else:
-        path = f"{ROOM}/units/{unit}.pid"
     try:
-        with open(path, encoding="ascii") as file:
-            return os.path.exists(f"/proc/{file.read().strip() or 'none'}")
-    except FileNotFoundError:
+        with open(f"{ROOM}/units/{unit.removesuffix('.service')}.pid", encoding="ascii") as file:
+            pid = file.read().strip()
+        return bool(pid) and not is_dead(int(pid))
+    except (FileNotFoundError, ValueError):
         return False
 
 
@@ -106,9 +104,11 @@ def stop(unit: str) -> None:
     kind, _, name = unit.removesuffix(".service").partition("@")
     if kind == "hall":
         known = settings(name)
-        done = subprocess.run([f"{TOP}/deploy/stop", name, "100"], env=known, check=False)
-        if done.returncode:
-            sys.exit(done.returncode)
+        while is_active(unit):
+            done = subprocess.run([f"{TOP}/deploy/stop", name, "100"], env=known, check=False)
+            if done.returncode:
+                sys.exit(done.returncode)
+            time.sleep(0.02)
     elif kind == "hall-archive-follow":
         end(unit)
 

@@ -179,7 +179,7 @@ class Halls:
     def end(self) -> None:
         for path in glob.glob(f"{self.etc}/*.env"):
             self.control("stop", f"hall@{os.path.basename(path).removesuffix('.env')}")
-        for path in glob.glob(f"{self.folder}/units/*.pid"):
+        for path in glob.glob(f"{self.folder}/units/hall-*.pid"):
             self.control("stop", os.path.basename(path).removesuffix(".pid"))
 
 
