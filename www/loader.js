@@ -36,7 +36,8 @@ export class BatchPage {
       this.field, make("button", {}, say("show")), this.stopper, this.names);
     form.addEventListener("submit", (event) => {
       event.preventDefault();
-      location.hash = `#${this.name}/${this.field.value.trim()}`;
+      const book = office.oldBook ? `/${office.oldBook}` : "";
+      location.hash = `#${this.name}/${this.field.value.trim()}${book}`;
     });
     section.append(make("h1", { className: "unseen" }, say(this.name)), form, this.said,
       this.place);

@@ -2,11 +2,9 @@
 
 import { CODE, LANGUAGE, changeLanguage, say, time } from "./words.js";
 import { fillTexts, icon, make, put } from "./page.js";
-import { following, link } from "./office.js";
+import { bookOf, following, link, oldBook } from "./office.js";
 import { keepText, readText } from "./store.js";
 import { loadSettings, settings } from "./settings.js";
-
-const soon = (name) => async () => (await import("./soon.js")).soonPage(name);
 
 // What is loaded when a page is first shown.
 const PAGES = new Map(Object.entries({
@@ -15,9 +13,9 @@ const PAGES = new Map(Object.entries({
   batch: () => import("./batch.js"),
   desk: () => import("./desk.js"),
   sheet: () => import("./sheet.js"),
-  reports: soon("reports"),
+  reports: () => import("./reports.js"),
   evidence: () => import("./evidence.js"),
-  search: soon("search"),
+  search: () => import("./search.js"),
 }));
 // The name that a page had before.
 const FORMER = new Map([["chart", "batch"]]);
@@ -101,7 +99,7 @@ function buildHead() {
     keepText("hall.theme", next);
     setTheme(next);
   });
-  put(document.getElementById("where"), settings.hall);
+  put(document.getElementById("where"), [settings.hall, oldBook].filter((one) => one).join(" · "));
 }
 
 document.documentElement.lang = CODE;
@@ -109,7 +107,11 @@ setTheme(readText("hall.theme"));
 fillTexts(document);
 await loadSettings();
 buildHead();
-addEventListener("hashchange", () => following(show));
+addEventListener("hashchange", () => {
+  // what was read of one book is no other's
+  if (bookOf(location.hash) === oldBook) following(show);
+  else location.reload();
+});
 showAge();
 setInterval(showAge, 500);
 await following(show);

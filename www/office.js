@@ -10,6 +10,16 @@ export const PATIENCE = 20_000;
 const AT_ONCE = 4;
 const PACK_UNKNOWN = 24;
 
+// The book that an address names behind a batch, as `#sheet/MORNING/2026-11`: the archive answers of
+// it what its office did. Without one it is the hall itself.
+export function bookOf(hash) {
+  const [page, , book] = hash.slice(1).split("/");
+  return ["batch", "sheet"].includes(page) ? decodeURIComponent(book ?? "") : "";
+}
+
+export const oldBook = bookOf(location.hash);
+const OFFICE = oldBook ? `archive/old/${encodeURIComponent(oldBook)}/` : "hall/";
+
 // No answer came, or one that isn't the office's: what was asked may be asked again.
 export class Missing extends Error {}
 
@@ -49,7 +59,7 @@ export async function reach(path, options = {}) {
 export async function ask(path, canWait = false) {
   await enter(canWait);
   try {
-    const answer = await reach(`hall/${path}`);
+    const answer = await reach(OFFICE + path);
     if (![200, 409].includes(answer.status)) throw new Missing(String(answer.status));
     Object.assign(link, { at: Date.now(), why: "" });
     return answer.status === 409 ? { ...answer, ...JSON.parse(answer.text) } : answer;
@@ -127,4 +137,4 @@ async function file(path) {
 
 export const list = async () => readList(await file("list.txt"));
 export const lanes = async () => readLanes(await file("lanes.txt"));
-export const paper = (batch) => file(`papers/${batch}.txt`);
+export const paper = (batch) => file(`${oldBook ? OFFICE : ""}papers/${batch}.txt`);

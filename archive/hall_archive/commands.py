@@ -11,9 +11,11 @@ from collections.abc import Iterator
 from typing import Any
 
 from hall_archive import checks, nets, stamps, store, witness
+from hall_archive.delivering import Delivery
 from hall_archive.door import Door
 from hall_archive.appending import whole_lines
 from hall_archive.following import COMMIT_ROWS, Follower, Spool
+from hall_archive.months import Months
 from hall_archive.questions import Books
 from hall_archive.reading import Reader, at_rest
 from hall_archive.rows import line_of
@@ -94,6 +96,7 @@ def beside(
     people = People(kept, settings.front) if settings.front else None
     witnessing = witnessing_of(settings, book, kept, reader)
     checking = Checking(kept, Books(store.open_engine(settings.database)), reader)
+    months = Months(kept, settings.front, settings.central)
     said, next_witness, goes_on = Said(), 0.0, True
     while goes_on:
         goes_on = thread.is_alive() and not following.stop.wait(PEOPLE_EVERY)
@@ -110,9 +113,11 @@ def beside(
                 if witnessing:
                     witnessing.look(bool(closed), moment)
                 checking.look(moment)
+            months.look()
             said.good("goes on")
         except (Unkept, OSError) as fault:
             said.fault(f"{book.name}: {fault}")
+    months.end()
 
 
 def witnessing_of(
@@ -164,6 +169,9 @@ def take(settings: Settings, word: str, _: str) -> int:
         refuse(kept, why)
     rows = at_rest(reader, lambda: take_rest(kept, reader))
     print(f"rows {rows} taken")
+    Months(kept, settings.front).look(now=True)
+    if settings.central:
+        print(f"rows {Delivery(kept, settings.central).all()} delivered")
     return check(settings, word, "")
 
 

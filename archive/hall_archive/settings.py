@@ -11,6 +11,8 @@
     authority = "/etc/hall/stamps.pem"   #   and the certificate that those stamps are under
     seal = "/etc/hall/seal.pem"          # the hall's certificate, under which appendices are
     seal_key = "/etc/hall/seal.key"      #   sealed, and its key; may be absent
+    central = "postgresql://archive.example/hall_archive"   # the archive of several halls, which
+                                         #   is given all that is new; may be absent
 
     [days]                               # may be absent: until evidence is too old
     scale = 1
@@ -22,13 +24,15 @@
     hall = "main"                        # books of one hall have one evidence
     name = "2026-12"
     door = 8473                          # its door for the archive; absent of a book at rest
-"""
+
+`[reports]` is in `report_settings`."""
 
 import tomllib
 from dataclasses import dataclass
 from typing import Any
 
 from hall_archive.reading import NAME, Program, Reader, Socket
+from hall_archive.report_settings import BadReports, ReportSettings, read_reports
 
 PATH = "/etc/hall/archive.toml"
 PORT = 8_490
@@ -36,7 +40,7 @@ LAST_PORT = 65_535
 # Days until evidence is too old, where the settings don't say.
 DAYS = {"scale": 1, "tare": 90, "density": 30, "uncertainty": 365}
 KEYS = {"database", "folder", "front", "read", "program", "books", "port", "days", "book"}
-KEYS |= {"stamps", "authority", "seal", "seal_key"}
+KEYS |= {"stamps", "authority", "seal", "seal_key", "reports", "central"}
 
 
 class BadSettings(ValueError):
@@ -69,6 +73,8 @@ class Settings:
     seal_key: str
     days: dict[str, int]
     followed: tuple[BookSettings, ...]
+    reports: ReportSettings
+    central: str
 
     def book(self, name: str, hall: str = "") -> BookSettings:
         """The book of a name, of a hall where several halls have one of it."""
@@ -147,7 +153,16 @@ def read_settings(text: str) -> Settings:
         seal_key=text_of(table, "seal_key", ""),
         days={kind: number_of(days, kind, most, 36_500) for kind, most in DAYS.items()},
         followed=followed,
+        reports=reports_of(table.get("reports", {})),
+        central=text_of(table, "central", ""),
     )
+
+
+def reports_of(table: dict[str, Any]) -> ReportSettings:
+    try:
+        return read_reports(table)
+    except BadReports as fault:
+        raise BadSettings(str(fault)) from fault
 
 
 def load(path: str) -> Settings:

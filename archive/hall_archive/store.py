@@ -12,7 +12,7 @@ from sqlalchemy.engine import make_url
 from sqlalchemy.exc import DBAPIError, TimeoutError
 from sqlalchemy.pool import QueuePool
 
-from hall_archive import schema
+from hall_archive import halls, nets, schema
 from hall_archive.clock import Clock
 from hall_archive.keeping import Keeper
 from hall_archive.resuming import Resuming
@@ -125,8 +125,7 @@ class Store:
                 )
             ).scalar()
             if found is None:
-                values = {"hall": self.hall, "name": self.name, "upto": 0}
-                found = link.execute(schema.book.insert().values(values)).inserted_primary_key[0]
+                found = halls.new_book(link, self.hall, self.name)
         return int(found)
 
     # ---- what a follower begins with

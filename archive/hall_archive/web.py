@@ -9,7 +9,7 @@ from typing import Any
 from fastapi import Body, FastAPI, Header, HTTPException, Path, Query
 from fastapi.responses import JSONResponse, PlainTextResponse, StreamingResponse
 
-from hall_archive import evidence, nets, store
+from hall_archive import evidence, nets, report_pages, store
 from hall_archive.evidence import BadEvidence, Record
 from hall_archive.reading import NAME
 from hall_archive.records import Records
@@ -56,6 +56,7 @@ def make_app(settings: Settings) -> Any:
     add_questions(app, search, halls)
     add_texts(app, search, halls)
     add_evidence(app, records, halls, settings.days)
+    report_pages.add_months(app, settings, halls.of)
     return app
 
 

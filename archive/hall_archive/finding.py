@@ -1,0 +1,110 @@
+"""Search over all books: batches by the beginning of their names, product, verdict, days and persons who
+acted on them; and packs by their number. Each answer has at most MOST records."""
+
+from typing import Any
+
+from hall_archive.periods import Period
+from hall_archive.questions import Books
+from hall_archive.rows import MAX_ROWS, SIGNALS, day_text
+
+MOST = 200
+FOUND = """
+    SELECT k.hall, k.name AS book, k.id, o.batch, o.name, o.product, o.nominal, o.density, o.day,
+    b.state, b.verdict
+    FROM opening o JOIN book k ON k.id = o.book
+    JOIN batch b ON b.book = o.book AND b.row = o.batch
+    WHERE {terms} ORDER BY o.day DESC, k.hall, k.name DESC, o.batch DESC LIMIT {most}"""
+ACTED = """EXISTS (SELECT 1 FROM person p JOIN act a ON a.book = p.book AND a.row = p.row
+    WHERE p.book = o.book AND p.name = :person AND a.batch = o.batch)"""
+NETS = """
+    SELECT book, batch, sum(CASE WHEN pile IN (0, 2) THEN count ELSE 0 END),
+    sum(CASE WHEN pile IN (0, 2) THEN net ELSE 0 END) FROM quarter
+    WHERE {terms} GROUP BY book, batch"""
+
+
+class Finding(Books):
+    """Searches the books of some halls."""
+
+    def batches(
+        self, halls: tuple[str, ...], text: str, given: dict[str, str], period: Period | None
+    ) -> list[dict[str, Any]]:
+        """Batches whose names begin so, the newest first; `given` has product, verdict, person and
+        book."""
+        terms, values = self.terms(halls, text, given, period)
+        found = self.ask(FOUND.format(terms=" AND ".join(terms), most=MOST), **values)
+        nets = self.nets({(row.id, row.batch) for row in found})
+        return [shown(row._mapping, nets.get((row.id, row.batch), (0, 0))) for row in found]
+
+    def terms(
+        self, halls: tuple[str, ...], text: str, given: dict[str, str], period: Period | None
+    ) -> tuple[list[str], dict[str, Any]]:
+        values: dict[str, Any] = {f"hall{at}": hall for at, hall in enumerate(halls)}
+        terms = [f"k.hall IN ({', '.join(f':{key}' for key in values) or 'NULL'})"]
+        if text:
+            terms.append("substr(o.name, 1, :long) = :text")
+            values |= {"text": text, "long": len(text)}
+        for word, term in (
+            ("product", "o.product = :product"),
+            ("book", "k.name = :book"),
+            ("verdict", "substr(b.verdict, 1, :wide) = :verdict"),
+            ("person", ACTED),
+        ):
+            if given.get(word):
+                terms.append(term)
+                values[word] = given[word]
+        if given.get("verdict"):
+            values["wide"] = len(given["verdict"])
+        if period:
+            # a batch is of the day on which it was opened
+            terms.append("o.day >= :first AND o.day <= :last")
+            values |= period._asdict()
+        return terms, values
+
+    def nets(self, batches: set[tuple[int, int]]) -> dict[tuple[int, int], tuple[int, int]]:
+        """How many packs of each count, and their nets."""
+        if not batches:
+            return {}
+        books: dict[int, list[int]] = {}
+        for book, batch in batches:
+            books.setdefault(book, []).append(batch)
+        terms = " OR ".join(
+            f"(book = {book} AND batch IN ({', '.join(map(str, rows))}))"
+            for book, rows in books.items()
+        )
+        found = self.ask(NETS.format(terms=terms))
+        return {(book, batch): (int(count), int(net)) for book, batch, count, net in found}
+
+    def packs(self, halls: tuple[str, ...], number: int) -> list[dict[str, Any]]:
+        """The packs of a number, one of each book that has one."""
+        if not 0 < number <= MAX_ROWS:
+            return []
+        values = {f"hall{at}": hall for at, hall in enumerate(halls)}
+        found = self.ask(
+            f"""SELECT k.hall, k.name AS book, p.day, p.lane, p.gross, p.signal, b.name AS batch,
+            b.product FROM book k JOIN pack p ON p.book = k.id AND p.row = :number
+            JOIN batch b ON b.book = p.book AND b.row = p.batch
+            WHERE k.hall IN ({', '.join(f':{key}' for key in values) or 'NULL'})
+            ORDER BY p.day DESC, k.hall, k.name DESC LIMIT {MOST}""",
+            number=number,
+            **values,
+        )
+        return [
+            dict(row._mapping) | {"day": day_text(row.day), "signal": SIGNALS[row.signal]}
+            for row in found
+        ]
+
+
+def shown(row: Any, sums: tuple[int, int]) -> dict[str, Any]:
+    count, net = sums
+    nominal = row["nominal"] * (row["density"] or 1_000_000) // 1_000_000
+    return {
+        "hall": row["hall"],
+        "book": row["book"],
+        "batch": row["name"],
+        "product": row["product"],
+        "day": day_text(row["day"]),
+        "state": row["state"],
+        "verdict": row["verdict"],
+        "packs": count,
+        "over": round(net / count - nominal, 3) if count else None,
+    }
