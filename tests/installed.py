@@ -126,7 +126,7 @@ def check_files(debian: Debian, how: str) -> None:
         " /usr/share/man/man8/hall-site.8*",
         0,
     )
-    pages = debian.run("cd /usr/share/doc/hall && echo README.md docs/*.md", 0).split()
+    pages = debian.run("cd /usr/share/doc/hall && echo README.md docs/*.md docs/lines/*.md", 0).split()
     for page in pages:
         text = debian.run(f"cat /usr/share/doc/hall/{page}", 0)
         here = page.rpartition("/")[0]
