@@ -12,6 +12,7 @@ from hall_adapter.check import check
 from hall_adapter.devices import names
 from hall_adapter.register_maps import map_of
 from hall_adapter.settings import settings_of
+from hall_adapter.watch_settings import watched_of
 
 TOP = os.path.dirname(os.path.dirname(os.path.dirname(os.path.abspath(__file__))))
 PAGES = sorted(glob.glob(f"{TOP}/docs/lines/*.md"))
@@ -81,6 +82,11 @@ class Pages(unittest.TestCase):
                         map_of(table)
                     else:
                         settings_of(table)
+
+    def test_the_settings_of_metrics_are_good(self) -> None:
+        found = [tomllib.loads(block) for block in blocks(text_of(f"{TOP}/docs/LINES.md"), "toml")]
+        [table] = [table for table in found if "doors" in table]
+        self.assertEqual(watched_of(table).archive, "https://hall.example/archive")
 
 
 if __name__ == "__main__":
