@@ -3,6 +3,7 @@ tests/adapters.py."""
 
 import json
 import os
+import socket
 import subprocess
 import time
 
@@ -83,6 +84,8 @@ def start_metrics(room: Room) -> "subprocess.Popen[bytes]":
     standby = f"{room.folder}/standby.txt"
     with open(standby, "w", encoding="ascii") as said:
         said.write("book 5009 rows, copy 9\nbook 5010 rows, copy 3\n")
+    with open(f"{room.folder}/list.txt", "w", encoding="ascii") as listed:
+        listed.write("batch B1 product P state running population 0\nrows 5 left 39995\n")
     with open(f"{room.folder}/status", "w", encoding="ascii") as status:
         status.write('# TYPE hall_serves gauge\nhall_serves{book="main"} 1\n')
     with open(f"{room.folder}/metrics.toml", "w", encoding="ascii") as settings:
@@ -90,6 +93,7 @@ def start_metrics(room: Room) -> "subprocess.Popen[bytes]":
             f'book = "main"\nlisten = "127.0.0.1:{METRICS}"\nevery = 1\n'
             f'url = "http://127.0.0.1:{FIRST_DOOR}"\nfile = "{room.book}"\nlimit = 40000\n'
             f'lanes = 1\ndoors = [{FIRST_DOOR}, {FIRST_DOOR + 1}]\ndisks = ["{room.folder}"]\n'
+            f'list = "{room.folder}/list.txt"\n'
             f'status = ["cat", "{room.folder}/status"]\nstatus_every = 1\n'
             f'[[copy]]\nname = "standby"\nsaid = "{standby}"\n'
         )
@@ -146,6 +150,10 @@ def check_numbers(broker: Broker, prometheus: Prometheus, way: SerialLine | TcpD
         ('hall_batch_forecast{part="average"}', 1),
         ('hall_pile_packs{pile="passed"}', PACKS),
         ('hall_copy_rows_behind{copy="standby"}', 5007),
+        # the list has five of the rows that the door says
+        ("hall_list_rows_behind", PACKS),
+        ("hall_doors", 2),
+        ("hall_doors_busy", 0),
         ("hall_line_answer_seconds_count", PACKS),
         ("hall_serves", 1),
         ("hall_up", 1),
@@ -159,9 +167,15 @@ def check_numbers(broker: Broker, prometheus: Prometheus, way: SerialLine | TcpD
             lambda: prometheus.value(query) == value,
             f"{query} is {prometheus.value(query)}, and not {value}",
         )
+    free = os.statvfs(os.path.dirname(broker.taken))
+    part = (prometheus.value("hall_disk_free_bytes") or 0) / (free.f_bavail * free.f_frsize)
+    need(0.9 < part < 1.1, f"the disk has {part} of the free bytes")
+    with socket.create_connection(("127.0.0.1", FIRST_DOOR + 1)):
+        wait_until(lambda: prometheus.value("hall_doors_busy") == 1, "a door is busy")
+    wait_until(lambda: prometheus.value("hall_doors_busy") == 0, "no door is busy")
     wait_until(lambda: "HallBookFills" in prometheus.firing(), "HallBookFills")
     need("HallLineStopped" not in prometheus.firing(), "HallLineStopped fires too soon")
-    say(f"{PACKS} packs: a message by mosquitto for each, 13 numbers by prometheus as worked out")
+    say(f"{PACKS} packs: a message by mosquitto for each, 19 numbers by prometheus as worked out")
 
 
 def check_advice(broker: Broker, path: str) -> None:
