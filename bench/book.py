@@ -108,13 +108,17 @@ def least(words, answer):
 def compare(book, way):
     whole = f"rows {rows} whole\n"
     check, memory = least([program, "check", "--book", book], whole)
-    alone, _ = least([opener, book], "")
     cat, _ = least(["cat", book], None)
     print(f"{os.path.getsize(book)} bytes {way}: check {1e3 * check:.1f} ms,"
-          f" cat {1e3 * cat:.1f} ms, ratio {check / cat:.1f}")
-    print(f"opened without replay {1e3 * alone:.1f} ms, times of cat {alone / cat:.2f};"
-          f" the replay {1e3 * (check - alone):.1f} ms,"
-          f" {1e6 * (check - alone) / rows:.2f} us a row")
+          f" {1e6 * check / rows:.2f} us a row, cat {1e3 * cat:.1f} ms, ratio {check / cat:.1f}")
+    if "BEFORE" in os.environ:
+        before, _ = least([os.environ["BEFORE"], "check", "--book", book], whole)
+        print(f"before {1e3 * before:.1f} ms: now {check / before:.2f} of it")
+    if opener != "none":
+        alone, _ = least([opener, book], "")
+        print(f"opened without replay {1e3 * alone:.1f} ms, times of cat {alone / cat:.2f};"
+              f" the replay {1e3 * (check - alone):.1f} ms,"
+              f" {1e6 * (check - alone) / rows:.2f} us a row")
     print(f"peak memory of check: {memory} KiB, {1024 * memory / rows:.0f} bytes a row")
 
 

@@ -9,7 +9,8 @@
 # it. Where hall takes less than half of the time of the loop over zeros the run ends with status 1:
 # so rows that are never synced are seen, which no test and no kill can see.
 #
-# BEFORE names a program whose rows are to be compared, in the same sitting.
+# BEFORE names a program whose rows and opening are to be compared, in the same sitting; OPENER the
+# program that opens a journal alone, where it was built before, or `none`, where it is left out.
 #
 # Then a book of 1 000 000 rows, made in a folder whose syncs are quick: `hall check` by the
 # snapshot that the run kept, by the slots alone (the same file cut behind its rows), opening the
@@ -24,9 +25,12 @@ work=$(mktemp -d "$1/hall_book.XXXXXX")
 quick=$(mktemp -d "${2:-/dev/shm}/hall_book.XXXXXX")
 trap 'rm -rf "$work" "$quick"' EXIT
 
-. "$here/program.sh"
-build_program journal_opening book_journal book_snapshot disk_core file_disk hall_limits
-opener=$program
+opener=${OPENER:-}
+if [ -z "$opener" ]; then
+    . "$here/program.sh"
+    build_program journal_opening book_journal book_snapshot disk_core file_disk hall_limits
+    opener=$program
+fi
 
 # HALL names another program to try.
 if [ -z "${HALL:-}" ]; then "$here/../hall" run </dev/null >/dev/null; fi

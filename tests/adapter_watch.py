@@ -1,20 +1,16 @@
-"""Who watches a line: a real mosquitto, and a real prometheus that scrapes and fires the rules of
-deploy/; the dashboard, as far as prometheus can tell. For tests/adapters.py."""
+"""Who watches a line: a real mosquitto, and a real prometheus that scrapes it and its hall. For
+tests/adapters.py."""
 
 import json
 import os
-import re
+import socket
 import subprocess
 import time
-import urllib.parse
-import urllib.request
-from typing import Any
 
 from adapter_room import (
     ADAPTER,
     FIRST_DOOR,
     FIRST_METRICS,
-    PATIENCE,
     TOP,
     Line,
     Room,
@@ -24,23 +20,14 @@ from adapter_room import (
     say,
     wait_until,
 )
+from adapter_prometheus import RULES, Prometheus, fetch, port_is_open
 from clients import Hall, need
 from drawn import garvens
 
 BROKER = 1883
-PROMETHEUS = 9090
 METRICS = 9470
 GOOD, LIGHT = 262_000, 230_000
 PACKS = 12
-# What hall-status hands out, which comes from elsewhere.
-OF_STATUS = {
-    "hall_serves",
-    "hall_lane_weighs",
-    "hall_held",
-    "hall_standby_rows_behind",
-    "hall_standby_age_seconds",
-    "hall_copy_age_seconds",
-}
 
 
 class Broker:
@@ -92,75 +79,13 @@ class Broker:
         self.process.wait()
 
 
-def port_is_open(port: int) -> bool:
-    """Whether something listens at a port."""
-    with open("/proc/net/tcp", encoding="ascii") as table:
-        return f":{port:04X} 00000000:0000 0A" in table.read()
-
-
-def fetch(url: str) -> str:
-    """What is to be had at a URL; nothing while it isn't."""
-    try:
-        with urllib.request.urlopen(url, timeout=20) as answer:
-            text: str = answer.read().decode()
-            return text
-    except OSError:
-        return ""
-
-
-class Prometheus:
-    """A prometheus that scrapes a line and a hall each second."""
-
-    def __init__(self, folder: str) -> None:
-        with open(f"{folder}/prometheus.yml", "w", encoding="ascii") as settings:
-            settings.write(
-                "global: {scrape_interval: 1s, evaluation_interval: 1s}\n"
-                f"rule_files: [{TOP}/deploy/prometheus-rules.yml]\n"
-                "scrape_configs:\n"
-                f"  - {{job_name: hall, static_configs: [{{targets: ['127.0.0.1:{METRICS}',"
-                f" '127.0.0.1:{FIRST_METRICS}']}}]}}\n"
-            )
-        self.process = subprocess.Popen(
-            [
-                "prometheus",
-                f"--config.file={folder}/prometheus.yml",
-                f"--storage.tsdb.path={folder}/data",
-                f"--web.listen-address=127.0.0.1:{PROMETHEUS}",
-            ],
-            stdout=subprocess.DEVNULL,
-            stderr=subprocess.DEVNULL,
-        )
-        Hall.running.append(self.process)
-        wait_until(lambda: "ready" in fetch(self.url("/-/ready")).lower(), "prometheus is ready")
-
-    def url(self, path: str) -> str:
-        """A path of it."""
-        return f"http://127.0.0.1:{PROMETHEUS}{path}"
-
-    def value(self, query: str) -> float | None:
-        """The number that a query gives; nothing where it gives none, or several."""
-        asked = urllib.parse.urlencode({"query": query})
-        text = fetch(self.url(f"/api/v1/query?{asked}"))
-        found: list[Any] = json.loads(text)["data"]["result"] if text else []
-        return float(found[0]["value"][1]) if len(found) == 1 else None
-
-    def firing(self) -> set[str]:
-        """The alerts that fire."""
-        text = fetch(self.url("/api/v1/alerts"))
-        alerts: list[Any] = json.loads(text)["data"]["alerts"] if text else []
-        return {one["labels"]["alertname"] for one in alerts if one["state"] == "firing"}
-
-    def end(self) -> None:
-        """Ends it."""
-        self.process.kill()
-        self.process.wait()
-
-
 def start_metrics(room: Room) -> "subprocess.Popen[bytes]":
     """A `hall-adapter metrics` over the hall."""
     standby = f"{room.folder}/standby.txt"
     with open(standby, "w", encoding="ascii") as said:
         said.write("book 5009 rows, copy 9\nbook 5010 rows, copy 3\n")
+    with open(f"{room.folder}/list.txt", "w", encoding="ascii") as listed:
+        listed.write("batch B1 product P state running population 0\nrows 5 left 39995\n")
     with open(f"{room.folder}/status", "w", encoding="ascii") as status:
         status.write('# TYPE hall_serves gauge\nhall_serves{book="main"} 1\n')
     with open(f"{room.folder}/metrics.toml", "w", encoding="ascii") as settings:
@@ -168,6 +93,7 @@ def start_metrics(room: Room) -> "subprocess.Popen[bytes]":
             f'book = "main"\nlisten = "127.0.0.1:{METRICS}"\nevery = 1\n'
             f'url = "http://127.0.0.1:{FIRST_DOOR}"\nfile = "{room.book}"\nlimit = 40000\n'
             f'lanes = 1\ndoors = [{FIRST_DOOR}, {FIRST_DOOR + 1}]\ndisks = ["{room.folder}"]\n'
+            f'list = "{room.folder}/list.txt"\n'
             f'status = ["cat", "{room.folder}/status"]\nstatus_every = 1\n'
             f'[[copy]]\nname = "standby"\nsaid = "{standby}"\n'
         )
@@ -179,7 +105,6 @@ def start_metrics(room: Room) -> "subprocess.Popen[bytes]":
 
 def check_watched(program: str, folder: str, packs: int, seed: str) -> None:
     """A line that is watched, and stopped."""
-    check_files()
     room = Room(program, f"{folder}/watched", 1)
     room.start()
     broker, metrics = Broker(room.folder), start_metrics(room)
@@ -189,7 +114,7 @@ def check_watched(program: str, folder: str, packs: int, seed: str) -> None:
         f'[filler]\npacks = 5\ntarget = 262.0\nband = 0.5\nfile = "{room.folder}/advice"\n'
     )
     line, way = open_line(room, "serial", "garvens", 1, more)
-    prometheus = Prometheus(room.folder)
+    prometheus = Prometheus(room.folder, [METRICS, FIRST_METRICS], RULES)
     check_numbers(broker, prometheus, way)
     check_advice(broker, f"{room.folder}/advice")
     check_broker_away(broker, way)
@@ -225,6 +150,10 @@ def check_numbers(broker: Broker, prometheus: Prometheus, way: SerialLine | TcpD
         ('hall_batch_forecast{part="average"}', 1),
         ('hall_pile_packs{pile="passed"}', PACKS),
         ('hall_copy_rows_behind{copy="standby"}', 5007),
+        # the list has five of the rows that the door says
+        ("hall_list_rows_behind", PACKS),
+        ("hall_doors", 2),
+        ("hall_doors_busy", 0),
         ("hall_line_answer_seconds_count", PACKS),
         ("hall_serves", 1),
         ("hall_up", 1),
@@ -238,9 +167,15 @@ def check_numbers(broker: Broker, prometheus: Prometheus, way: SerialLine | TcpD
             lambda: prometheus.value(query) == value,
             f"{query} is {prometheus.value(query)}, and not {value}",
         )
+    free = os.statvfs(os.path.dirname(broker.taken))
+    part = (prometheus.value("hall_disk_free_bytes") or 0) / (free.f_bavail * free.f_frsize)
+    need(0.9 < part < 1.1, f"the disk has {part} of the free bytes")
+    with socket.create_connection(("127.0.0.1", FIRST_DOOR + 1)):
+        wait_until(lambda: prometheus.value("hall_doors_busy") == 1, "a door is busy")
+    wait_until(lambda: prometheus.value("hall_doors_busy") == 0, "no door is busy")
     wait_until(lambda: "HallBookFills" in prometheus.firing(), "HallBookFills")
     need("HallLineStopped" not in prometheus.firing(), "HallLineStopped fires too soon")
-    say(f"{PACKS} packs: a message by mosquitto for each, 13 numbers by prometheus as worked out")
+    say(f"{PACKS} packs: a message by mosquitto for each, 19 numbers by prometheus as worked out")
 
 
 def check_advice(broker: Broker, path: str) -> None:
@@ -288,38 +223,3 @@ def check_stopped(
     say(
         f"a reject that isn't confirmed: prometheus fires {seconds:.1f} s after the gate is stopped"
     )
-
-
-def check_files() -> None:
-    """The rules as promtool judges them; the queries of the dashboard, and that each number that
-    rules and dashboard name is handed out."""
-    rules = f"{TOP}/deploy/prometheus-rules.yml"
-    promtool("check", "rules", rules)
-    promtool("test", "rules", f"{TOP}/tests/prometheus_rules.yml")
-    with open(f"{TOP}/deploy/grafana-hall.json", encoding="utf-8") as source:
-        board = json.load(source)
-    queries = [target["expr"] for panel in board["panels"] for target in panel["targets"]]
-    for query in queries:
-        plain = query.replace("$book", "main").replace("$line", "one")
-        promtool("check", "rules", rule="a", expr=plain)
-    from hall_adapter.metrics import FAMILIES
-
-    with open(rules, encoding="utf-8") as source:
-        text = source.read() + "\n".join(queries)
-    named = set(re.findall(r"\bhall_[a-z_]+", text))
-    plain = {name.removesuffix("_sum").removesuffix("_count") for name in named}
-    need(plain <= set(FAMILIES) | OF_STATUS, f"unknown: {plain - set(FAMILIES) - OF_STATUS}")
-    say(f"18 rules and {len(queries)} queries of the dashboard by promtool")
-
-
-def promtool(*words: str, rule: str = "", expr: str = "") -> None:
-    """Runs promtool, over a rule of this expression where one is given."""
-    path = f"/tmp/rule-{os.getpid()}.yml"
-    if rule:
-        with open(path, "w", encoding="ascii") as text:
-            json.dump({"groups": [{"name": "a", "rules": [{"record": rule, "expr": expr}]}]}, text)
-        words = (*words, path)
-    ran = subprocess.run(["promtool", *words], capture_output=True, text=True, timeout=PATIENCE)
-    need(ran.returncode == 0, f"promtool: {ran.stdout} {ran.stderr}")
-    if rule:
-        os.remove(path)

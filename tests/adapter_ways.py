@@ -10,7 +10,7 @@ import threading
 import time
 from collections.abc import Callable
 
-from adapter_modbus import MODBUS_PORT, ModbusDevice, modbus_line
+from adapter_modbus import ModbusDevice, modbus_line, modbus_way
 from adapter_room import (
     ADAPTER,
     PATIENCE,
@@ -84,11 +84,19 @@ def check_times(program: str, folder: str, packs: int, seed: str) -> None:
         tell_times(kind, measure(packs, weigh, lambda: gate_time(line)))
         line.end()
         room.stop()
-    room = Room(program, f"{folder}/times-modbus", 1)
+    for kind in ("tcp", "rtu"):
+        time_modbus(Room(program, f"{folder}/times-modbus-{kind}", 1), kind, packs)
+
+
+def time_modbus(room: Room, kind: str, packs: int) -> None:
+    """How long it takes from a device's strobe to the gate's coil."""
     room.start()
-    device = ModbusDevice("tcp", str(MODBUS_PORT))
-    line = modbus_line(room, f'tcp = "127.0.0.1:{MODBUS_PORT}"')
+    _, way, words = modbus_way(room, kind)
+    device = ModbusDevice(*words)
+    device.put()
+    line = modbus_line(room, way)
     wait_until(lambda: line.metric("hall_line_device_linked") == 1, "the device is there")
+    time.sleep(0.3)
     seen = [0]
 
     def coil_time() -> float:
@@ -96,7 +104,7 @@ def check_times(program: str, folder: str, packs: int, seed: str) -> None:
         seen[0] = len(device.opened())
         return device.opened()[-1]
 
-    tell_times("modbus tcp", measure(packs, device.pack, coil_time))
+    tell_times(f"modbus {kind}", measure(packs, device.pack, coil_time))
     need(line.notes()["skip"] == 0, f"a strobe was missed: {line.said()}")
     line.end()
     device.end()

@@ -12,6 +12,7 @@ sys.path[:0] = [ADAPTERS, os.path.join(ADAPTERS, "tests")]
 from adapter_modbus import check_modbus
 from adapter_reject import check_escaped, check_wrong
 from adapter_room import Room, say
+from adapter_rules import check_rules
 from adapter_streams import check_streams
 from adapter_watch import check_watched
 from adapter_ways import check_again, check_kills, check_recorded, check_times
@@ -35,6 +36,7 @@ CHECKS = {
     "recorded": check_recorded,
     "wrong": check_wrong,
     "escaped": check_escaped,
+    "rules": check_rules,
     "watched": check_watched,
     "times": check_times,
 }

@@ -120,12 +120,13 @@ def check_files(debian: Debian, how: str) -> None:
     for place in PLACES:
         debian.run(f"[ -s {place} ]", 0)
     debian.run(
-        "man -w hall hall-person hall-site >/dev/null 2>&1 || "
-        "ls /usr/share/man/man1/hall.1* /usr/share/man/man8/hall-person.8*"
+        "man -w hall hall-adapter hall-person hall-site >/dev/null 2>&1 || "
+        "ls /usr/share/man/man1/hall.1* /usr/share/man/man1/hall-adapter.1*"
+        " /usr/share/man/man8/hall-person.8*"
         " /usr/share/man/man8/hall-site.8*",
         0,
     )
-    pages = debian.run("cd /usr/share/doc/hall && echo README.md docs/*.md", 0).split()
+    pages = debian.run("cd /usr/share/doc/hall && echo README.md docs/*.md docs/lines/*.md", 0).split()
     for page in pages:
         text = debian.run(f"cat /usr/share/doc/hall/{page}", 0)
         here = page.rpartition("/")[0]

@@ -6,15 +6,18 @@ usage: hall-adapter COMMAND ..
   weights DEVICE [--unit U]          a device's lines to weights a line, from standard input
   check MAP FILE                     what a recorded stream would give, for who commissions a line
   record MAP                         takes registers down, a poll a line, for `check`
+  send PORT [--book URL ..]          sends weights to a lane's port, each until it is acknowledged
   line SETTINGS                      joins a line to a lane of a hall, as a service
   lane SETTINGS                      joins scale, scanner and pages to a lane that changes its batch
   metrics SETTINGS                   hands out the numbers of a hall for Prometheus, as a service
 """
 
 import argparse
+import os
 import sys
 
 from hall_adapter.devices import UNITS, BadTable, load, names
+from hall_adapter.send_words import add_words
 
 
 def devices() -> int:
@@ -42,6 +45,7 @@ def parser() -> argparse.ArgumentParser:
     tried.add_argument("file")
     recorded = commands.add_parser("record", help="takes registers down, for `check`")
     recorded.add_argument("map")
+    add_words(commands.add_parser("send", help="sends weights to a lane's port"))
     joined = commands.add_parser("line", help="joins a line to a lane of a hall")
     joined.add_argument("settings")
     changed = commands.add_parser("lane", help="joins scale, scanner and pages to a lane")
@@ -68,6 +72,10 @@ def run(given: argparse.Namespace) -> int:
             from hall_adapter import record
 
             return record.run(given.map)
+        case "send":
+            from hall_adapter import send
+
+            return send.run(given)
         case "lane":
             from hall_adapter import lane
 
@@ -88,6 +96,10 @@ def main(words: list[str]) -> int:
         return run(parser().parse_args(words))
     except BadTable as bad:
         print(f"hall-adapter: {bad}", file=sys.stderr)
+    except BrokenPipeError:
+        # who read what was printed has seen enough
+        os.dup2(os.open(os.devnull, os.O_WRONLY), sys.stdout.fileno())
+        return 1
     except OSError as error:
         print(f"hall-adapter: {error.filename}: {error.strerror}", file=sys.stderr)
     return 2

@@ -1,12 +1,15 @@
 """What the texts of the office and of other parts say, as numbers. Nothing here reads or writes.
 
-The texts are those of docs/FORMATS.md: the summary, the line of a lane, the sheet of a batch."""
+The texts are those of docs/FORMATS.md: the summary, the line of a lane, the sheet of a batch; and
+the books of the archive, as it answers them."""
 
+import json
 import re
 from dataclasses import dataclass
 
 LINE = re.compile(r"(\w+) (\d+)(?: gross (\S+))?")
 COPIED = re.compile(r"book (\d+) rows, copy (\d+)")
+LISTED = re.compile(r"^rows (\d+) left \d+$", re.MULTILINE)
 # One pack in forty may lack more than the tolerable error.
 ALLOWED = 40
 GRAMS_OF_LITRE = 1000.0
@@ -79,6 +82,32 @@ def behind_of(text: str) -> int | None:
     found = [COPIED.fullmatch(line) for line in text.splitlines()]
     last = [one for one in found if one][-1:]
     return int(last[0][1]) - int(last[0][2]) if last else None
+
+
+def rows_of_list(text: str) -> int | None:
+    """How many rows the list of what is in force has taken in."""
+    found = LISTED.search(text)
+    return int(found[1]) if found else None
+
+
+@dataclass(frozen=True)
+class Followed:
+    """How far the archive has followed a book: its rows, when it was last known to have all of
+    them, in seconds of the clock, and whether it refuses the book."""
+
+    rows: int
+    asked: float | None
+    is_refused: bool
+
+
+def followed_of(text: str, book: str) -> Followed | None:
+    """What the archive says of a book, in its list of books."""
+    for one in json.loads(text):
+        if one["name"] == book:
+            asked = one["asked"]
+            since = None if asked is None else int(asked) / 1000
+            return Followed(int(one["rows"]), since, bool(one["refused"]))
+    return None
 
 
 def connections_of(table: str, ports: list[int]) -> dict[int, int]:

@@ -38,7 +38,7 @@ def pack_message(pack: Pack, passed: bool) -> dict[str, Any]:
 
 def client_of(broker: Broker, name: str) -> Any:
     """A client of paho, which connects in a thread of its own."""
-    from paho.mqtt.client import Client  # type: ignore[import]
+    from paho.mqtt.client import Client
 
     client = Client(client_id=f"hall-{name}", clean_session=True)
     client.max_queued_messages_set(MOST_WAITING)

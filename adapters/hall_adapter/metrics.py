@@ -37,7 +37,14 @@ FAMILIES = {
     "hall_copy_rows_behind": ("gauge", "Rows that a copy of the book lacks, as it was last said."),
     "hall_copy_said_age_seconds": ("gauge", "Seconds since that was said."),
     "hall_disk_free_bytes": ("gauge", "Free bytes of a disk."),
+    "hall_list_rows_behind": ("gauge", "Rows that the list of what is in force lacks."),
+    "hall_archive_answers": ("gauge", "Whether the archive says how far it has followed the book."),
+    "hall_archive_rows_behind": ("gauge", "Rows that the archive lacks."),
+    "hall_archive_asked_age_seconds": ("gauge", "Since the archive was last known to have all."),
+    "hall_archive_refused": ("gauge", "Whether the archive takes nothing of another book."),
     "hall_door_connections": ("gauge", "Connections at a door of the office."),
+    "hall_doors": ("gauge", "Doors of the office."),
+    "hall_doors_busy": ("gauge", "Doors that somebody is at, or waits at."),
 }
 
 Labels = tuple[tuple[str, str], ...]

@@ -3,6 +3,7 @@
 A desk numbers its acts, and the book takes each number once (docs/OPERATING.md). Where an answer
 was lost the same act is asked again under its number."""
 
+import base64
 import http.client
 import json
 import urllib.parse
@@ -23,10 +24,11 @@ class Refused(Exception):
 
 
 class Office:
-    """A door of the office, or the front."""
+    """A door of the office, or the front, which wants to know who asks."""
 
-    def __init__(self, url: str) -> None:
+    def __init__(self, url: str, headers: dict[str, str] | None = None) -> None:
         self.url = urllib.parse.urlsplit(url)
+        self.headers = headers or {}
 
     def ask(self, path: str, act: dict[str, Any] | None = None) -> tuple[int, bytes]:
         """What is answered at a path, with its status; an OSError where nothing is."""
@@ -35,7 +37,8 @@ class Office:
         link = kind(self.url.netloc, timeout=PATIENCE)
         try:
             body = None if act is None else json.dumps(act).encode()
-            link.request("GET" if act is None else "POST", self.url.path.rstrip("/") + path, body)
+            method, where = "GET" if act is None else "POST", self.url.path.rstrip("/") + path
+            link.request(method, where, body, self.headers)
             answer = link.getresponse()
             return answer.status, answer.read()
         except http.client.HTTPException as fault:
@@ -49,6 +52,13 @@ class Office:
         if status not in (200, 409):
             raise OSError(f"{path} is answered {status}")
         return body.decode() if status == 200 else None
+
+
+def login_of(path: str) -> dict[str, str]:
+    """The header by which the front knows who asks, of a file with a line `NAME:PASSWORD`."""
+    with open(path, encoding="utf-8") as source:
+        login = source.readline().strip()
+    return {"Authorization": "Basic " + base64.b64encode(login.encode()).decode()}
 
 
 class VoidDesk:

@@ -1,22 +1,7 @@
 """hall-adapter metrics SETTINGS
 
-Hands out the numbers of a hall as Prometheus reads them, at `/metrics`. The settings, in TOML:
-
-    book = "main"                            # the label of all numbers
-    listen = "127.0.0.1:9470"
-    every = 5                                # seconds for which numbers are kept
-    url = "http://127.0.0.1:8471"            # a door of the office; may be absent
-    file = "/var/lib/hall/main.book"         # the book; may be absent: no packs by lane and signal
-    limit = 1000000                          # its LIMIT
-    lanes = 2
-    doors = [8471, 8472]                     # the ports of the doors
-    disks = ["/var/lib/hall"]
-    status = ["hall-status", "--prometheus", "main"]    # may be absent: its numbers come first
-    status_every = 60
-
-    [[copy]]                                 # for each copy of the book; may be absent
-    name = "standby"
-    said = "/run/hall/main/standby.txt"      # what standby.sh says, the newest line last
+Hands out the numbers of a hall as Prometheus reads them, at `/metrics`. `watch_settings` has what
+the file of settings says.
 
 A number that can't be had is left out; `hall_up` says whether the door answers."""
 
@@ -25,71 +10,21 @@ import os
 import subprocess
 import sys
 import time
-from dataclasses import dataclass
-from typing import Any
+from collections.abc import Callable
+from functools import partial
 
 from hall_adapter.book_rows import BookRows
-from hall_adapter.devices import need, number_of, only, read_table, text_of
-from hall_adapter.hall_texts import (
-    Sheet,
-    batch_of_lane,
-    behind_of,
-    connections_of,
-    sheet_of,
-    summary_of,
-)
+from hall_adapter.devices import BadTable, read_table
+from hall_adapter.followers import ArchiveFollower, tell_copy, tell_list
+from hall_adapter.hall_texts import Sheet, batch_of_lane, connections_of, sheet_of, summary_of
 from hall_adapter.metrics import Metrics, merged, serve
 from hall_adapter.office import Office
-from hall_adapter.settings import address_of, words_of
+from hall_adapter.watch_settings import Watched, watched_of
 
 SOCKETS = "/proc/net/tcp"
 PILES = ("passed", "rejected", "sampled", "voided")
 # Seconds that the command of the status has.
 PATIENCE = 50.0
-# How much of the end of a file is looked at for its last line.
-TAIL = 4_096
-KEYS = {"book", "listen", "every", "url", "file", "limit", "lanes", "doors", "disks", "copy"}
-KEYS |= {"status", "status_every"}
-
-
-@dataclass(frozen=True)
-class Watched:
-    """The settings."""
-
-    book: str
-    listen: tuple[str, int]
-    every: int
-    url: str
-    file: str
-    limit: int
-    lanes: int
-    doors: list[int]
-    disks: list[str]
-    copies: dict[str, str]
-    status: tuple[str, ...]
-    status_every: int
-
-
-def watched_of(table: dict[str, Any]) -> Watched:
-    """The settings of a table that was read."""
-    only(table, KEYS, "the settings")
-    doors, disks, copies = table.get("doors", []), table.get("disks", []), table.get("copy", [])
-    need(all(type(port) is int for port in doors), "`doors` has to be a list of ports")
-    need(all(isinstance(path, str) for path in disks), "`disks` has to be a list of paths")
-    return Watched(
-        text_of(table, "book"),
-        address_of(text_of(table, "listen")),
-        number_of(table, "every", 5),
-        text_of(table, "url", ""),
-        text_of(table, "file", ""),
-        number_of(table, "limit", 1_000_000),
-        number_of(table, "lanes", 0),
-        doors,
-        disks,
-        {text_of(copy, "name"): text_of(copy, "said") for copy in copies},
-        words_of(table, "status"),
-        number_of(table, "status_every", 60),
-    )
 
 
 class Watch:
@@ -99,11 +34,15 @@ class Watch:
         self.settings = settings
         self.rows = BookRows(settings.file) if settings.file else None
         self.office = Office(settings.url) if settings.url else None
+        self.archive = ArchiveFollower(settings) if settings.archive else None
         self.lock = asyncio.Lock()
         self.kept, self.kept_until = "", 0.0
         self.status, self.status_until = "", 0.0
         # the newest number of rows, and since when it stands
         self.count, self.count_since = -1, time.time()
+        # the rows as a door said them, the newest among them; and the faults that were told
+        self.said_rows = 0
+        self.told: dict[str, str] = {}
 
     async def text(self) -> str:
         """The numbers, taken anew where those that are kept are too old."""
@@ -117,12 +56,40 @@ class Watch:
     def take(self) -> str:
         """Takes all numbers."""
         metrics = Metrics(book=self.settings.book)
-        for part in (self.take_rows, self.take_office, self.take_copies, self.take_system):
+        for name, part in self.parts().items():
             try:
                 part(metrics)
+                self.told.pop(name, None)
             except (OSError, ValueError, KeyError, IndexError) as fault:
-                print(f"metrics: {fault}", file=sys.stderr, flush=True)
+                self.tell(name, str(fault) or type(fault).__name__)
         return merged([self.take_status(), metrics.text()])
+
+    def tell(self, name: str, why: str) -> None:
+        """Tells why a part's numbers can't be had, once as long as it is the same."""
+        if self.told.get(name) != why:
+            print(f"metrics: {name}: {why}", file=sys.stderr, flush=True)
+        self.told[name] = why
+
+    def parts(self) -> dict[str, Callable[[Metrics], None]]:
+        """Where numbers come from, by the name of each."""
+        settings = self.settings
+        parts: dict[str, Callable[[Metrics], None]] = {
+            "book": self.take_rows,
+            "office": self.take_office,
+            "system": self.take_system,
+        }
+        for name, path in settings.copies.items():
+            parts[f"copy {name}"] = partial(tell_copy, name=name, path=path)
+        if settings.list:
+            parts["list"] = lambda metrics: tell_list(metrics, settings.list, self.newest_rows())
+        if self.archive:
+            archive = self.archive
+            parts["archive"] = lambda metrics: archive.tell(metrics, self.newest_rows())
+        return parts
+
+    def newest_rows(self) -> int:
+        """How many rows the book is known to have."""
+        return max(self.said_rows, self.rows.rows if self.rows else 0)
 
     def take_status(self) -> str:
         """What the status command says, from time to time."""
@@ -136,7 +103,7 @@ class Watch:
                 self.status = ran.stdout.decode("utf-8", "replace")
             except (OSError, subprocess.TimeoutExpired) as fault:
                 self.status = ""
-                print(f"metrics: {fault}", file=sys.stderr, flush=True)
+                self.tell("status", str(fault))
         return self.status
 
     def take_rows(self, metrics: Metrics) -> None:
@@ -164,6 +131,7 @@ class Watch:
         summary = self.office.text("/summary") or ""
         metrics.set("hall_up", 1)
         counts, states = summary_of(summary)
+        self.said_rows = counts["rows"]
         if self.rows is None:
             self.count_rows(metrics, counts["rows"])
         for pile in PILES:
@@ -184,19 +152,6 @@ class Watch:
             if sheet := office.text(f"/batches/{batch}"):
                 tell_sheet(metrics, batch, sheet_of(sheet))
 
-    def take_copies(self, metrics: Metrics) -> None:
-        """How far each copy is behind."""
-        for name, path in self.settings.copies.items():
-            with open(path, "rb") as said:
-                about = os.fstat(said.fileno())
-                said.seek(max(0, about.st_size - TAIL))
-                text = said.read().decode("utf-8", "replace")
-            behind = behind_of(text)
-            if behind is not None:
-                metrics.set("hall_copy_rows_behind", behind, copy=name)
-            age = round(time.time() - about.st_mtime, 1)
-            metrics.set("hall_copy_said_age_seconds", age, copy=name)
-
     def take_system(self, metrics: Metrics) -> None:
         """Disks, and who is at the doors."""
         for path in self.settings.disks:
@@ -205,6 +160,8 @@ class Watch:
         if self.settings.doors:
             with open(SOCKETS, encoding="ascii") as table:
                 counts = connections_of(table.read(), self.settings.doors)
+            metrics.set("hall_doors", len(counts))
+            metrics.set("hall_doors_busy", sum(1 for count in counts.values() if count))
             for port, count in counts.items():
                 metrics.set("hall_door_connections", count, port=str(port))
 
@@ -223,7 +180,10 @@ def tell_sheet(metrics: Metrics, batch: str, sheet: Sheet) -> None:
 
 def run(path: str) -> int:
     """Hands the numbers out until it is ended."""
-    watch = Watch(watched_of(read_table(path)))
+    try:
+        watch = Watch(watched_of(read_table(path)))
+    except BadTable as bad:
+        raise BadTable(f"{path}: {bad}") from None
     try:
         asyncio.run(serve(watch.settings.listen, watch.text))
     except KeyboardInterrupt:

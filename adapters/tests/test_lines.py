@@ -98,6 +98,14 @@ class Lines(unittest.TestCase):
         readings, _ = told_of("garvens", LINES["garvens"][0][0], 10)
         self.assertEqual(readings, [Reading(251_300, 1, "RICE250")])
 
+    def test_a_pack_in_motion_is_reported_once(self) -> None:
+        for device, (line, motion) in DRAWN.items():
+            stream = line(1, 251_300) + line(2, 252_400, motion) + line(3, 253_500)
+            readings, notes = told_of(device, stream, 4096)
+            with self.subTest(device=device):
+                self.assertEqual([one.mass for one in readings], [251_300, 253_500])
+                self.assertEqual([(one.kind, one.count) for one in notes], [("motion", 1)])
+
     def test_a_stream_that_breaks_off(self) -> None:
         for device, (line, _) in DRAWN.items():
             whole = line(1, 251_300) + line(2, 252_400)

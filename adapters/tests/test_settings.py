@@ -5,7 +5,7 @@ from typing import Any
 
 from hall_adapter.devices import BadTable
 from hall_adapter.settings import settings_of
-from hall_adapter.watch import watched_of
+from hall_adapter.watch_settings import watched_of
 
 GOOD: dict[str, Any] = {
     "name": "line-1",
@@ -56,6 +56,10 @@ class Settings(unittest.TestCase):
             {"doors": ["8471"]},
             {"listen": "9470"},
             {"copy": [{"name": "a"}]},
+            {"copy": {"name": "a", "said": "b"}},
+            {"disks": "/var/lib/hall"},
+            {"archive": {"login": "a"}},
+            {"archive": "https://hall.example/archive"},
         ]
         for changed in faulty:
             with self.subTest(changed=changed), self.assertRaises(BadTable):

@@ -1,16 +1,32 @@
 """Numbers of a hall: texts as docs/FORMATS.md has them, slots spelled by hand, metrics, alarms."""
 
+import http.server
 import os
 import tempfile
+import threading
+import time
 import unittest
+from typing import Any
 
 from hall_adapter.alarms import Bound
 from hall_adapter.book_rows import SLOT, BookRows
-from hall_adapter.hall_texts import batch_of_lane, behind_of, connections_of, sheet_of, summary_of
+from hall_adapter.followers import ArchiveFollower
+from hall_adapter.hall_texts import (
+    Followed,
+    batch_of_lane,
+    behind_of,
+    connections_of,
+    followed_of,
+    rows_of_list,
+    sheet_of,
+    summary_of,
+)
 from hall_adapter.lanes import Pack
 from hall_adapter.messages import pack_message
 from hall_adapter.metrics import Metrics, family_of, merged
 from hall_adapter.readings import Note, Reading
+from hall_adapter.watch import Watch
+from hall_adapter.watch_settings import watched_of
 
 SUMMARY = """rows 17
 readings 5 gross 1253.900
@@ -45,6 +61,12 @@ SOCKETS = """  sl  local_address rem_address   st tx_queue rx_queue tr tm->when
 """
 
 
+# what the archive answers at /books
+BOOKS = """[{"name": "main", "rows": 9, "asked": 1764642600500, "refused": null, "batches": 1,
+"closed": 0}, {"name": "other", "rows": 5, "asked": null, "refused": "row 3 differs",
+"batches": 1, "closed": 0}]"""
+
+
 def slot(number: int, kind: int, lane: int = 0, signal: int = 0, gate: int = 1) -> bytes:
     """A row in its slot: its gate, kind, number, lane and signal, and zeros."""
     row = bytearray(SLOT)
@@ -77,6 +99,13 @@ class Texts(unittest.TestCase):
         self.assertEqual(behind_of("book 9 rows, copy 8\nbook 12 rows, copy 8\nbook 13 r"), 4)
         self.assertIsNone(behind_of("the copy doesn't answer\n"))
         self.assertEqual(connections_of(SOCKETS, [8471, 8472]), {8471: 1, 8472: 0})
+
+    def test_those_who_follow(self) -> None:
+        self.assertEqual(rows_of_list("day 2026-12-02\nlane 1 batch A\nrows 17 left 9983\n"), 17)
+        self.assertIsNone(rows_of_list("no book\n"))
+        self.assertEqual(followed_of(BOOKS, "other"), Followed(5, None, True))
+        self.assertEqual(followed_of(BOOKS, "main"), Followed(9, 1_764_642_600.5, False))
+        self.assertIsNone(followed_of(BOOKS, "third"))
 
 
 class Rows(unittest.TestCase):
@@ -135,6 +164,90 @@ class Numbers(unittest.TestCase):
         other = "# TYPE hall_rows gauge\nhall_rows 2\nhall_up 1\nnonsense\n"
         self.assertEqual(merged([one, other]), one + "hall_up 1\nnonsense\n")
         self.assertEqual(family_of('a_sum{b="c"} 1'), "a")
+
+
+class Answering(http.server.BaseHTTPRequestHandler):
+    """An archive behind its front: it wants a login, and names the books."""
+
+    login = "Basic d2F0Y2g6c2VjcmV0"
+
+    def do_GET(self) -> None:
+        is_known = self.headers["Authorization"] == self.login and self.path == "/archive/books"
+        self.send_response(200 if is_known else 401)
+        self.end_headers()
+        if is_known:
+            self.wfile.write(BOOKS.encode())
+
+    def log_message(self, format: str, *args: object) -> None:
+        """Says nothing."""
+
+
+class Following(unittest.TestCase):
+    """How far those who follow a book are behind."""
+
+    def setUp(self) -> None:
+        self.server = http.server.ThreadingHTTPServer(("127.0.0.1", 0), Answering)
+        threading.Thread(target=self.server.serve_forever, daemon=True).start()
+        self.addCleanup(self.server.server_close)
+        self.addCleanup(self.server.shutdown)
+        folder = tempfile.TemporaryDirectory()
+        self.addCleanup(folder.cleanup)
+        self.folder = folder.name
+        self.write("login", "watch:secret\n")
+        self.table: dict[str, Any] = {
+            "book": "main",
+            "listen": "127.0.0.1:1",
+            "archive": {
+                "url": f"http://127.0.0.1:{self.server.server_port}/archive/",
+                "login": f"{self.folder}/login",
+            },
+        }
+
+    def write(self, name: str, text: str) -> str:
+        """A file of the folder."""
+        path = os.path.join(self.folder, name)
+        with open(path, "w", encoding="ascii") as file:
+            file.write(text)
+        return path
+
+    def numbers(self, text: str) -> dict[str, float]:
+        """The numbers of a text without their labels."""
+        lines = [line for line in text.splitlines() if not line.startswith("#")]
+        return {line.partition("{")[0]: float(line.split()[-1]) for line in lines}
+
+    def test_the_archive(self) -> None:
+        metrics = Metrics(book="main")
+        ArchiveFollower(watched_of(self.table)).tell(metrics, 12)
+        said = self.numbers(metrics.text())
+        self.assertEqual((said["hall_archive_rows_behind"], said["hall_archive_answers"]), (3, 1))
+        self.assertEqual(said["hall_archive_refused"], 0)
+        age = time.time() - 1_764_642_600.5
+        self.assertAlmostEqual(said["hall_archive_asked_age_seconds"], age, delta=5)
+
+    def test_an_archive_that_lets_nobody_in(self) -> None:
+        self.write("login", "watch:another\n")
+        metrics = Metrics(book="main")
+        with self.assertRaises(OSError):
+            ArchiveFollower(watched_of(self.table)).tell(metrics, 12)
+        self.assertEqual(self.numbers(metrics.text()), {"hall_archive_answers": 0})
+
+    def test_each_follower_by_itself(self) -> None:
+        self.table["list"] = self.write("list", "lane 1 batch A\nrows 2 left 8\n")
+        self.table["file"] = os.path.join(self.folder, "book")
+        self.table["copy"] = [
+            {"name": "gone", "said": f"{self.folder}/nothing"},
+            {"name": "there", "said": self.write("said", "book 9 rows, copy 7\n")},
+        ]
+        rows = b"".join(slot(number, 1) for number in range(1, 6))
+        with open(str(self.table["file"]), "wb") as book:
+            book.write(bytes(SLOT) + rows)
+        watch = Watch(watched_of(self.table))
+        said = self.numbers(watch.take())
+        self.assertEqual(said["hall_copy_rows_behind"], 2)
+        self.assertEqual((said["hall_rows"], said["hall_list_rows_behind"]), (4, 2))
+        # the archive is ahead of what is known of the file
+        self.assertEqual(said["hall_archive_rows_behind"], 0)
+        self.assertEqual(list(watch.told), ["copy gone"])
 
 
 class Alarming(unittest.TestCase):
