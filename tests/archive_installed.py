@@ -19,11 +19,9 @@ AIM = 2.0
 LEVEL = re.compile(r"exposure level for (\S+): ([0-9.]+) ")
 # An authority for the stamps, as archive_stamps.py has it, until it is ended.
 AUTHORITY = """
-import sys, os, time
+import os, sys, time
 sys.path[:0] = ["/root", "/usr/lib/hall-archive"]
-sys.argv = ["none"]
-source = open("/root/archive_stamps.py").read().rpartition("main()")[0]
-exec(compile(source, "/root/archive_stamps.py", "exec"), globals())
+from archive_stamps import Authority
 os.makedirs("/run/authority", exist_ok=True)
 own = Authority("/run/authority", "own")
 print(own.url, flush=True)

@@ -183,4 +183,5 @@ def main() -> None:
     print(f"seed {seed}")
 
 
-main()
+if __name__ == "__main__":
+    main()

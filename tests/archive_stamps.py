@@ -221,4 +221,5 @@ def main() -> None:
     print("3 lines stamped; 4 spoiled stamps told; 4 times no stamp, and none kept")
 
 
-main()
+if __name__ == "__main__":
+    main()

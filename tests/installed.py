@@ -26,7 +26,8 @@ PLACES = """
     /usr/share/hall/desks.js /usr/share/hall/pages.js /usr/share/hall/hall.env
     /usr/share/hall/www/index.html
     /usr/share/hall/scales/lane.sh /usr/share/hall/scales/gate.sh /usr/bin/hall-adapter
-    /usr/bin/hall-inspect /usr/bin/hall-count /usr/share/hall/scales/scale_sender.py
+    /usr/bin/hall-inspect /usr/bin/hall-count /usr/bin/hall-appendix
+    /usr/share/hall/scales/scale_sender.py
     /usr/share/hall/standby.sh /usr/share/hall/shipments.py /etc/hall/hall.nft
     /usr/share/bash-completion/completions/hall /usr/share/doc/hall/examples/draw_again.sh
     /usr/share/doc/hall/examples/papers/released.txt /usr/share/doc/hall/docs/screen_board.png

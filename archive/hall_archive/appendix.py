@@ -129,11 +129,17 @@ def compose(batch: nets.Batch, facts: Facts, entries: Iterable[Entry], hours: Ho
         f"paper {facts.paper}",
         f"audit {closed} {facts.audit}",
         f"witness {facts.witness or NO}",
-        *(f"evidence {json.dumps(one._asdict(), sort_keys=True)}" for one in facts.evidence),
+        *map(evidence_line, facts.evidence),
         *(f"out {line}" for line in out_lines(batch)),
         *(f"row {hours.of(entry.row)}\t{line_of(entry)}" for entry in rows),
     ]
     return "".join(f"{line}\n" for line in (*lines, f"end {len(lines)}"))
+
+
+def evidence_line(one: Record) -> str:
+    """A record whole, behind what a reader looks for: what, of what, when, how it ended, by whom."""
+    head = f"evidence {one.kind} {one.subject} {utc(one.moment)} {one.result} {quoted(one.person)}"
+    return f"{head} {json.dumps(one._asdict(), sort_keys=True)}"
 
 
 def heads(batch: nets.Batch, closed: int) -> list[str]:
