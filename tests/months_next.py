@@ -59,6 +59,8 @@ class Halls:
             [*self.known["SYSTEMCTL"].split(), *words],
             env=self.known, capture_output=True, text=True, check=False,
         )  # fmt: skip
+        if words[0] in ("start", "stop"):
+            need(ran.returncode == 0, f"{words}: {ran.stderr}")
         return ran.returncode
 
     def settle(self, name: str) -> None:
