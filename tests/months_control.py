@@ -35,7 +35,7 @@ def begin(name: str) -> None:
             os.remove(shown)
         words = ["sh", "-c", f"echo $$ >'{ROOM}/units/{unit}.pid'; exec \"$@\"", "sh"]
         with open(f"{ROOM}/etc/{name}.toml", "rb") as plan, open(f"{ROOM}/log", "ab") as log:
-            subprocess.Popen(
+            run = subprocess.Popen(
                 [*words, f"{TOP}/deploy/start", name],
                 stdin=plan,
                 stdout=log,
@@ -43,7 +43,9 @@ def begin(name: str) -> None:
                 env=known,
                 start_new_session=True,
             )
-        time.sleep(0.1)
+        # (the child does so too, for where this is killed here)
+        with open(f"{ROOM}/units/{unit}.pid", "w", encoding="ascii") as file:
+            file.write(str(run.pid))
     end = time.monotonic() + PATIENCE
     while not os.path.exists(shown):
         if not is_active(unit) or time.monotonic() > end:

@@ -22,6 +22,7 @@ CARRIED = ("day", "product", "tare")
 OPEN, UNFIT = 1, 2
 PORT = 22_471
 DOORS = 2
+PATIENCE = 120
 STEPS = 1_500
 
 
@@ -59,6 +60,8 @@ class Halls:
             [*self.known["SYSTEMCTL"].split(), *words],
             env=self.known, capture_output=True, text=True, check=False,
         )  # fmt: skip
+        if words[0] in ("start", "stop"):
+            need(ran.returncode == 0, f"{words}: {ran.stderr}")
         return ran.returncode
 
     def settle(self, name: str) -> None:
@@ -71,6 +74,7 @@ class Halls:
 
     def work(self, name: str) -> None:
         """Drawn acts over a book at rest, and a verdict for each batch."""
+        self.wait_free(name)
         drawn = Draw(self.chance)
         script = drawn.script = Script(self.program, self.path(name))
         listing = self.hall("list", "--book", self.path(name)) if self.rows(name) else "day none"
@@ -86,6 +90,14 @@ class Halls:
         need(script.end() == 0, "the script ended early")
         self.close(name)
 
+    def wait_free(self, name: str) -> None:
+        """Until no reader has the book open: the archive's audit, a moment ago."""
+        words = [self.program, "run", "--book", self.path(name)]
+        end = time.monotonic() + PATIENCE
+        while subprocess.run(words, input=b"", capture_output=True, check=False).returncode:
+            need(time.monotonic() < end, f"{name} stays in use")
+            time.sleep(0.1)
+
     def rows(self, name: str) -> int:
         if not os.path.exists(self.path(name)):
             return 0
@@ -93,6 +105,7 @@ class Halls:
 
     def close(self, name: str) -> None:
         """Every batch gets its verdict, by the means of a desk."""
+        self.wait_free(name)
         listing = self.hall("list", "--book", self.path(name))
         words = [line.split(" ") for line in listing.splitlines()]
         script = Script(self.program, self.path(name))
@@ -145,6 +158,7 @@ class Halls:
         one but for batches, desks and rows."""
         # of a running book the newest row isn't read
         self.control("stop", f"hall@{name}")
+        self.wait_free(name)
         before = self.hall("list", "--book", self.path(name))
         self.control("start", f"hall@{name}")
         for _ in range(kills):
@@ -155,6 +169,7 @@ class Halls:
         need(self.control("is-active", f"hall@{found}") == 0, f"{found} isn't served")
         need(answers(PORT), "no door answers")
         self.control("stop", f"hall@{found}")
+        self.wait_free(found)
         after = self.hall("list", "--book", self.path(found))
         self.control("start", f"hall@{found}")
         need(carried(before) == carried(after), f"{before}\nbecame\n{after}")
@@ -202,6 +217,7 @@ def refused(halls: Halls, name: str) -> None:
     listing = halls.hall("list", "--book", halls.path(name))
     goods = next(line.split()[1] for line in listing.splitlines() if " g tare " in line)
     halls.control("stop", f"hall@{name}")
+    halls.wait_free(name)
     halls.hall("run", "--book", halls.path(name), given=f"open LATE {goods}\n")
     halls.control("start", f"hall@{name}")
     status, said = halls.next(name)
@@ -210,6 +226,7 @@ def refused(halls: Halls, name: str) -> None:
     need(halls.rows(name) >= rows, "rows are gone")
     # (an empty batch is closed by its end and its closing alone)
     halls.control("stop", f"hall@{name}")
+    halls.wait_free(name)
     halls.hall("run", "--book", halls.path(name), given="end LATE\nclose LATE\n")
     halls.control("start", f"hall@{name}")
     status, said = halls.next("nothing")
@@ -236,6 +253,7 @@ def days(halls: Halls, name: str) -> None:
     need(enter(first + timedelta(3)) == 0, "a missed day isn't made up")
     need(enter(newest) == 1, "a day of before is entered")
     halls.control("stop", f"hall@{name}")
+    halls.wait_free(name)
     acts = halls.hall("acts", "--book", halls.path(name), "--after", str(rows)).splitlines()
     told = [line.split("\t")[2] for line in acts]
     wanted = [f"@163 1 day {first}", f"@163 2 day {first + timedelta(3)}"]

@@ -13,6 +13,8 @@ addWords({
   more: ["+ {count} more", "+ {count} weitere"],
   bookFull: ["The book is full: no pack is weighed. Begin the next book",
     "Das Buch ist voll: keine Packung wird gewogen. Das nächste Buch beginnen"],
+  rowsHours: ["{left} rows left in the book, at the rate of now for {hours} h: prepare the next one",
+    "Noch {left} Zeilen im Buch, bei diesem Tempo für {hours} h: das nächste vorbereiten"],
   rowsLow: ["{left} rows left in the book: prepare the next one",
     "Noch {left} Zeilen im Buch: das nächste vorbereiten"],
   heldBy: ["{batch} is held: void pack {pack}, or correct the tare",
@@ -102,8 +104,14 @@ function laneAlarm({ number, batch, silence, idle }) {
   return [];
 }
 
-function bookAlarm({ left, isFull }) {
+// Rows left, and for how long at the rate of now, in packs a minute of all lanes.
+function bookAlarm({ left, isFull, rate }) {
   if (isFull || left === 0) return [["alarm", "reject", say("bookFull")]];
+  const hours = rate ? left / rate / 60 : Infinity;
+  if (hours < settings.alarms.hours) {
+    const words = { left: count(left), hours: count(Math.floor(hours)) };
+    return [["warn", "clock", say("rowsHours", words)]];
+  }
   const isLow = left < settings.alarms.rows;
   return isLow ? [["warn", "clock", say("rowsLow", { left: count(left) })]] : [];
 }

@@ -390,7 +390,8 @@ async function drawNew() {
   const book = leftOf(rows);
   putFoot(book, rows);
   const lanes = [...hall.lanes.values()].map(laneState);
-  const alarms = alarmsOf({ book, batches: views, lanes });
+  const rate = [...hall.lanes.values()].reduce((all, lane) => all + (hall.rateOf(lane) ?? 0), 0);
+  const alarms = alarmsOf({ book: { ...book, rate }, batches: views, lanes });
   place.bar.draw([...alarms, ...evidenceAlarms()], isSounding());
 }
 

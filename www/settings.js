@@ -8,7 +8,7 @@ import { say } from "./words.js";
 const DEFAULTS = {
   hall: "",
   lanes: {},
-  alarms: { silence: 120, rows: 50_000, full: 15, allowance: 90, sound: true },
+  alarms: { silence: 120, rows: 50_000, hours: 2, full: 15, allowance: 90, sound: true },
   prices: {},
   currency: "€",
   country: { share: 0, name: "" },
