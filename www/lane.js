@@ -173,7 +173,7 @@ function putProgress() {
     part("lightOf", say("ofAllowed", { used: count(sheet.nonstandard),
       allowed: count(forecast.allowed) }), "", meter(sheet.nonstandard, forecast.allowed,
       forecast.over ? "warn" : "")),
-    part("overNominal", `${grams(above, 2, true)} g`, ` · ${mass(aboveAll, true)}`));
+    part("overNominal", `${grams(above, 2, true)} g`, mass(aboveAll, true)));
 }
 
 function putHead() {
