@@ -37,6 +37,19 @@ window.hallClock = (() => {
       + ` net ${spell(net)} ${kind} ${end}\n`;
   }
 
+  // The signal of a pack, as its act has it.
+  const signalOf = (number) => (netOf(number) < 232_000 ? "reject inadequate" : "pass");
+
+  // The acts behind a row, a page of them: where a lane begins another batch its first pack stands
+  // for the start too, since all rows here are packs. What the lanes weigh is asked at first.
+  function actsText(after) {
+    const numbers = Array.from({ length: Math.min(128, Math.max(0, rows() - after)) },
+      (_, at) => after + at + 1);
+    return numbers.map((number) => `${number} ${signalOf(number)}\t2025-03-03\t`
+      + `weigh ${number <= MOST ? 1 : laneOf(number)} ${spell(netOf(number) + 10_000)} opened\n`)
+      .join("");
+  }
+
   // What the packs of a batch come to: one in 997 is rejected, one in 83 is light.
   const sums = new Map();
   function sumsOf(batch, first, count, apart) {
@@ -79,6 +92,7 @@ window.hallClock = (() => {
     const [kind, name, part, after] = path.split("/");
     if (part === "packs") return pageText(name, Number(after));
     if (kind === "summary") return `rows ${rows()}\n`;
+    if (kind === "acts") return actsText(Number(name));
     if (kind === "packs") return packText(Number(name));
     if (kind === "batches") return sheetText(name);
     const batch = batchAt(Number(name), placeOf(rows()));

@@ -63,7 +63,8 @@ def look(browser, name, language, faults, pictures):
 
 
 def set_language(browser, language):
-    browser.run(f"localStorage['hall.lang'] = '{language}'")
+    """Another language, in a browser that keeps no lane: `#lane` then is the choice of one."""
+    browser.run(f"localStorage['hall.lang'] = '{language}'; localStorage.removeItem('hall.lane')")
     browser.reload()
 
 

@@ -6,7 +6,8 @@ import { say, word } from "./words.js";
 import { give, outcome, why } from "./requests.js";
 import { pending, told } from "./kept.js";
 import { lacks, myDesk } from "./mydesk.js";
-import { make, put, verdictTag } from "./page.js";
+import { make, put } from "./page.js";
+import { verdictTag } from "./parts.js";
 import { fixed, grams as spell } from "./numbers.js";
 import { outcomeWords } from "./outcomes.js";
 

@@ -1,39 +1,12 @@
 // What needs a person now, in words and in order: what keeps packs from leaving, what would fail,
 // what stands still, what will be full. Drawn above the board, spoken and sounded once.
 
-import { addWords, say } from "./words.js";
+import { say } from "./words.js";
 import { ago, count, duration, grams, mass } from "./numbers.js";
 import { icon, make, put } from "./page.js";
 import { laneWords, settings } from "./settings.js";
 import { forecastWords } from "./forecastwords.js";
 import { sound } from "./sound.js";
-
-addWords({
-  noAlarm: ["No alarm. Nothing needs a person now.", "Kein Alarm. Gerade braucht nichts jemanden."],
-  more: ["+ {count} more", "+ {count} weitere"],
-  bookFull: ["The book is full: no pack is weighed. Begin the next book",
-    "Das Buch ist voll: keine Packung wird gewogen. Das nächste Buch beginnen"],
-  rowsHours: ["{left} rows left in the book, at the rate of now for {hours} h: prepare the next one",
-    "Noch {left} Zeilen im Buch, bei diesem Tempo für {hours} h: das nächste vorbereiten"],
-  rowsLow: ["{left} rows left in the book: prepare the next one",
-    "Noch {left} Zeilen im Buch: das nächste vorbereiten"],
-  heldBy: ["{batch} is held: void pack {pack}, or correct the tare",
-    "{batch} gesperrt: Packung {pack} streichen oder Tara ändern"],
-  heldBySome: ["{batch} is held: void the inadequate pack, or correct the tare",
-    "{batch} gesperrt: unzulässige Packung streichen oder Tara ändern"],
-  failAverage: ["{batch}: average {short} short. Next {next} packs: {each} g each",
-    "{batch}: Durchschnitt {short} zu wenig. Nächste {next} Packungen: je {each} g"],
-  failOther: ["{batch} {told}: {why}", "{batch} {told}: {why}"],
-  fullSoon: ["{batch} is full in {time}: open the next batch",
-    "{batch} ist in {time} voll: nächste Charge eröffnen"],
-  allowanceNear: ["{batch}: {used} of {allowed} of the allowance used",
-    "{batch}: {used} von {allowed} erlaubten verbraucht"],
-  silent: ["{lane}: no pack for {time}", "{lane}: seit {time} keine Packung"],
-  idleSince: ["{lane} ({batch}): {why}", "{lane} ({batch}): {why}"],
-  idleNone: ["{lane}: {why}", "{lane}: {why}"],
-  countryOver: ["{batch}: {used} below T1, {name} allows {allowed}",
-    "{batch}: {used} unter T1, {name} erlaubt {allowed}"],
-});
 
 export const NEARLY_FULL = 9_500;
 const SHOWN = 3;

@@ -3,64 +3,17 @@
 
 import { MOST_PACKS, limitsOf } from "./rules.js";
 import { RULES, causesOf, groupSize, isCounted, meanAndS } from "./control.js";
-import { addWords, say, word } from "./words.js";
+import { CODE, addWords, say, word } from "./words.js";
 import { count, fixed, grams, mass, percent, quantity } from "./numbers.js";
 import { drawChart, groupsOf } from "./chart.js";
-import { facts, icon, loadStyles, make, meter, notice, put, shape, signalTag, table, verdictTag,
-  whenSized } from "./page.js";
+import { icon, loadStyles, make, meter, notice, put, shape, whenSized } from "./page.js";
+import { facts, signalTag, table, verdictTag } from "./parts.js";
 import { priceOf, settings } from "./settings.js";
 import { BatchPage } from "./loader.js";
 import { forecastOf } from "./forecast.js";
 import { forecastWords } from "./forecastwords.js";
 
-addWords({
-  printSheet: ["Sheet to print", "Blatt zum Drucken"],
-  all: ["All", "Alle"],
-  window: ["Packs shown", "Gezeigte Packungen"],
-  packOf: ["{place} of {count}", "{place} von {count}"],
-  cursor: ["Pack at the cursor", "Packung am Zeiger"],
-  cursorHint: ["Arrow keys: pack by pack · Page up, Page down: 50 · Home, End",
-    "Pfeile: Packung für Packung · Bild auf, Bild ab: 50 · Pos1, Ende"],
-  cursorSays: ["pack {pack}, net {net} g, {signal}, {pile}",
-    "Packung {pack}, netto {net} g, {signal}, {pile}"],
-  group: ["Its {size}: x̄ · s", "Ihre {size}: x̄ · s"],
-  givenEach: ["Given away, a pack", "Verschenkt, je Packung"],
-  givenAll: ["Given away, in all", "Verschenkt, insgesamt"],
-  ofNominal: ["{share} of nominal", "{share} der Nennmenge"],
-  money: ["{sum} at {price} a {unit}", "{sum} bei {price} je {unit}"],
-  noPrice: ["no price is set for {product}", "kein Preis gesetzt für {product}"],
-  meanS: ["Mean · s", "Mittel · s"],
-  counted: ["Packs that count", "Packungen, die zählen"],
-  weighed: ["of {count} weighed", "von {count} gewogenen"],
-  light: ["Non-standard of allowed", "Untermaß von erlaubt"],
-  share: ["{share} of the packs; one in forty is {most}",
-    "{share} der Packungen; 1 von 40 sind {most}"],
-  inadequateName: ["Inadequate", "Unzulässig"],
-  below: ["below T2, {limit} g", "unter T2, {limit} g"],
-  rejects: ["Rejected and voided packs", "Ausgeschleuste und gestrichene Packungen"],
-  belowBy: ["Over nominal, g", "Über Nennmenge, g"],
-  perReason: ["By cause", "Nach Grund"],
-  stayed: ["the gate stayed shut", "das Tor blieb zu"],
-  showAll: ["Show all {count}", "Alle {count} zeigen"],
-  noRejects: ["None.", "Keine."],
-  "rule beyond3": ["beyond 3 sigma", "außerhalb 3 Sigma"],
-  "rule two3": ["2 of 3 beyond 2 sigma", "2 von 3 außerhalb 2 Sigma"],
-  "rule four5": ["4 of 5 beyond 1 sigma", "4 von 5 außerhalb 1 Sigma"],
-  "rule eight": ["8 in a row on one side", "8 in Folge auf einer Seite"],
-  outGroups: ["{marked} of {all} subgroups by a run rule: {rules}",
-    "{marked} von {all} Gruppen nach einer Laufregel: {rules}"],
-  outWhere: ["First at pack {from}, last at pack {to} of the batch.",
-    "Zuerst bei Packung {from}, zuletzt bei Packung {to} der Charge."],
-  noPacksText: ["No pack of this batch was weighed yet. Give it a lane; the chart then begins by "
-    + "itself.",
-  "Von dieser Charge ist noch keine Packung gewogen. Ihr eine Linie geben; die Karte beginnt dann "
-    + "von selbst."],
-  meanOf: ["mean of 30", "Mittel von 30"],
-  beyond: ["beyond the chart", "außerhalb der Karte"],
-  tareChange: ["another tare", "andere Tara"],
-  ucl: ["limits, 3 sigma", "Grenzen, 3 Sigma"],
-  byRule: ["by a run rule", "nach einer Laufregel"],
-});
+addWords((await import(`./batch_${CODE}.js`)).default);
 
 const FEW = 10;
 const WINDOWS = [MOST_PACKS, 2_000, 500, 100];
@@ -313,7 +266,7 @@ function draw(place, sheet, packs) {
 const page = new BatchPage("batch", draw);
 
 export async function build(section) {
-  await loadStyles("figures.css", "batch.css");
+  await loadStyles("parts.css", "tables.css", "figures.css", "batch.css");
   page.build(section);
 }
 

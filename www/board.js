@@ -2,9 +2,9 @@
 // The parts are made once for a set of batches and lanes; afterwards only texts and figures are put
 // anew, so that nothing moves.
 
-import { addWords, say, word } from "./words.js";
+import { CODE, addWords, say, word } from "./words.js";
 import { AlarmBar, alarmsOf, isNear, isSoonFull } from "./alarms.js";
-import { Hall, LAST_PACKS } from "./lanes.js";
+import { Hall } from "./lanes.js";
 import { MOST_PACKS, MOST_ROWS, limitsOf } from "./rules.js";
 import { count, duration, grams, quantity } from "./numbers.js";
 import { icon, loadStyles, make, meter, put, shape, whenSized } from "./page.js";
@@ -15,38 +15,11 @@ import { evidenceAlarms } from "./evidenceshown.js";
 import { forecastOf } from "./forecast.js";
 import { forecastWords } from "./forecastwords.js";
 import { laneWords, settings } from "./settings.js";
-import { packAt, packs } from "./follow.js";
+import { packAt, packs } from "./packs.js";
 import { idleWords } from "./standing.js";
 import { spark } from "./spark.js";
 
-addWords({
-  allowanceOf: ["Non-standard", "Untermaß"],
-  packsOf: ["{count} / {most}", "{count} / {most}"],
-  fullIn: ["full in {time}", "voll in {time}"],
-  aboveEach: ["Average", "Durchschnitt"],
-  aMinute: ["/min", "/min"],
-  silentShort: ["no pack", "keine"],
-  idleShort: ["idle", "steht"],
-  waitsShort: ["no batch", "keine Charge"],
-  fullShort: ["book full", "Buch voll"],
-  rowsLeft: ["{left} rows left", "noch {left} Zeilen"],
-  rowsAtMost: ["at most {left} rows left", "höchstens noch {left} Zeilen"],
-  forecastNote: ["Forecast: the three checks of all packs, as the verdict would be now.",
-    "Vorschau: die drei Prüfungen aller Packungen, wie das Urteil jetzt wäre."],
-  someShown: ["Lanes are fast: about 1 of {apart} packs is drawn.",
-    "Schnelle Linien: etwa 1 von {apart} Packungen ist gezeichnet."],
-  emptyBoard: ["No lane has a batch. Open a batch at a desk and give it a lane, at the lane or in "
-    + "the plan; it then stands here.",
-  "Keine Linie hat eine Charge. Am Platz eine Charge eröffnen und ihr eine Linie geben, an der "
-    + "Linie oder im Plan; dann steht sie hier."],
-  spoken: ["{lane}, {batch}: {signal}, {net} g, {rate} a minute. {out}",
-    "{lane}, {batch}: {signal}, {net} g, {rate} je Minute. {out}"],
-  outOf: ["{count} of the last {all} rejected, the newest: {cause}",
-    "{count} der letzten {all} ausgeschleust, zuletzt: {cause}"],
-  noneOut: ["None of the last {all} rejected", "Keine der letzten {all} ausgeschleust"],
-  soundOn: ["Sound is on", "Ton ist an"],
-  soundOff: ["Sound is off", "Ton ist aus"],
-});
+addWords((await import(`./board_${CODE}.js`)).default);
 
 // How often the files beside the pages are asked for anew, in milliseconds.
 const FILES_EVERY = 5_000;
@@ -164,8 +137,9 @@ function makeLane(lane, sheet) {
         part.out)));
   parts.lanes.set(lane.number, part);
   whenSized(part.spark, (wide, high) => {
-    part.size = [wide, high];
-    putSpark(part);
+    part.draw = spark(part.spark, part.limits, wide, high);
+    part.drawn = "";
+    putSpark(part, shownOf(part.lane));
   });
   return part.cell;
 }
@@ -206,11 +180,23 @@ function buildStrips(shown) {
 
 // ---- texts and figures
 
+// A bar is made anew only where it would be another one.
+function putBar(row, kind, used, whole) {
+  const now = `${kind} ${used} ${whole}`;
+  if (row.dataset.bar === now) return;
+  row.dataset.bar = now;
+  row.querySelector(".meter")?.remove();
+  row.append(meter(used, whole, kind));
+}
+
+function putKind(place, kind) {
+  if (place.className !== kind) place.className = kind;
+}
+
 function putMeter(part, kind, value, used, whole) {
-  part.row.className = kind;
+  putKind(part.row, kind);
   put(part.value, value);
-  part.row.querySelector(".meter")?.remove();
-  if (whole !== null) part.row.append(meter(used, whole, kind));
+  if (whole !== null) putBar(part.row, kind, used, whole);
 }
 
 function levelOf({ sheet, forecast, minutes }) {
@@ -234,8 +220,8 @@ function putBatch(view) {
   const { sheet, forecast, minutes } = view;
   const part = parts.batches.get(sheet.batch);
   const [kind, sign, told, more] = saysOf(view);
-  part.strip.className = `strip ${levelOf(view)}`;
-  part.says.className = `b-says ${kind}`;
+  putKind(part.strip, `strip ${levelOf(view)}`);
+  putKind(part.says, `b-says ${kind}`);
   if (part.sign.dataset.sign !== sign) part.sign.replaceChildren(icon(sign));
   part.sign.dataset.sign = sign;
   put(part.word, told);
@@ -250,7 +236,8 @@ function putBatch(view) {
   const { population } = sheet;
   putMeter(part.packs, isSoonFull(sheet, minutes) ? "warn" : "", time, population, MOST_PACKS);
   put(part.packs.name, say("packsOf", { count: count(population), most: count(MOST_PACKS) }));
-  part.packs.row.title = say("fullIn", { time });
+  const full = say("fullIn", { time });
+  if (part.packs.row.title !== full) part.packs.row.title = full;
   const { above } = forecast.average;
   const isShort = forecast.fails.includes("average") && isPlanned;
   putMeter(part.above, isShort ? "alarm" : "", `${grams(above, 2, true)} g`, 0, null);
@@ -273,19 +260,20 @@ function signalOf(lane, state) {
   return [last.signal === "reject held" ? "held" : "reject", "reject", word(last.signal)];
 }
 
-function putSpark(part) {
-  if (!part.size) return;
-  const shown = part.lane.packs.map((number) => packs.get(number)).filter((pack) => pack);
-  const now = `${part.size} ${shown.length} ${shown.at(-1)?.number} ${shown.at(-1)?.net}`;
+function putSpark(part, shown) {
+  if (!part.draw) return;
+  const now = `${shown.length} ${shown.at(-1)?.number} ${shown[0]?.net} ${shown.at(-1)?.net}`;
   if (now === part.drawn) return;
   part.drawn = now;
-  spark(part.spark, shown.slice(-LAST_PACKS), part.limits, ...part.size);
+  part.draw(shown);
 }
+
+const shownOf = (lane) =>
+  lane.packs.map((number) => packs.get(number)).filter((pack) => pack);
 
 // How many of the packs that are shown were rejected, and why the newest of them: that stays to be
 // seen when a later pack has passed. Gives back the same in a sentence.
-function putOuts(part, lane) {
-  const shown = lane.packs.map((number) => packs.get(number)).filter((pack) => pack);
+function putOuts(part, shown) {
   const outs = shown.filter(({ signal }) => signal !== "pass");
   const all = count(shown.length);
   part.out.classList.toggle("none", outs.length === 0);
@@ -293,7 +281,7 @@ function putOuts(part, lane) {
   put(part.cause, outs.length ? word(outs.at(-1).signal) : "");
   const told = outs.length === 0 ? say("noneOut", { all })
     : say("outOf", { all, count: count(outs.length), cause: word(outs.at(-1).signal) });
-  part.out.title = told;
+  if (part.out.title !== told) part.out.title = told;
   return told;
 }
 
@@ -301,9 +289,9 @@ function putLane(lane) {
   const part = parts.lanes.get(lane.number);
   if (!part) return;
   part.lane = lane;
-  const state = laneState(lane);
+  const [state, shown] = [laneState(lane), shownOf(lane)];
   const [kind, sign, told] = signalOf(lane, state);
-  part.signal.className = `w-signal ${kind}`;
+  putKind(part.signal, `w-signal ${kind}`);
   if (part.signal.dataset.told !== sign + told) {
     part.signal.replaceChildren(icon(sign), make("span", {}, told));
   }
@@ -314,16 +302,17 @@ function putLane(lane) {
   const rate = hall.rateOf(lane);
   put(part.rate, rate === null ? "–" : count(rate));
   put(part.spoken, say("spoken", { lane: laneWords(lane.number), batch: state.batch ?? "",
-    signal: told, net, rate: rate === null ? "–" : count(rate), out: putOuts(part, lane) }));
-  putSpark(part);
+    signal: told, net, rate: rate === null ? "–" : count(rate), out: putOuts(part, shown) }));
+  putSpark(part, shown);
 }
 
 function putFoot({ left, isSure }, rows) {
   put(place.left, say(isSure ? "rowsLeft" : "rowsAtMost", { left: count(left) }));
   const isLow = left < settings.alarms.rows;
-  place.rows.className = `left ${isLow ? "warn" : ""}`;
-  place.rows.querySelector(".meter")?.remove();
-  place.rows.append(meter(rows, rows + left, isLow ? "warn" : ""));
+  putKind(place.rows, `left ${isLow ? "warn" : ""}`);
+  // a row is too little to be seen: the bar has thousandths
+  const used = Math.round(rows / Math.max(1, rows + left) * 1000);
+  putBar(place.rows, isLow ? "warn" : "", used, 1000);
   const apart = Math.round(hall.apart);
   put(place.note, apart > 1 ? say("someShown", { apart }) : say("forecastNote"));
 }

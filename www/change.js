@@ -6,7 +6,7 @@ import { Missing, allLanes, lane as askLane, lanes as askPlan, list, reach, shee
   from "./office.js";
 import { addWords, say } from "./words.js";
 import { laneWords } from "./settings.js";
-import { make, put } from "./page.js";
+import { loadStyles, make, put } from "./page.js";
 import { names } from "./names.js";
 import { refusal } from "./refusals.js";
 
@@ -142,6 +142,7 @@ const nameOf = (text) => SCAN.exec(text.trim())?.[1] ?? text.trim();
 
 // Opens the dialog of a lane; with a batch, that one is said at once.
 export async function open(dialog, lane, scanned = "") {
+  await loadStyles("forms.css", "dialog.css");
   const said = make("output", { className: "said", role: "status" });
   const name = make("input", { id: "change-name", name: "name", autocomplete: "off",
     spellcheck: false, value: scanned });

@@ -7,7 +7,8 @@ import { addListed, names } from "./names.js";
 import { CODE, addWords, say, word } from "./words.js";
 import { count, day, quantity } from "./numbers.js";
 import { deskChoice, onDesk } from "./mydesk.js";
-import { icon, loadStyles, make, put, redraw } from "./page.js";
+import { icon, loadStyles, make, put } from "./page.js";
+import { redraw } from "./parts.js";
 import { isTask, nextOf } from "./tasks.js";
 import { laneWords } from "./settings.js";
 import { partOf, stepList, stepPanel } from "./steps.js";
@@ -24,8 +25,8 @@ const BATCH_UNKNOWN = 14;
 const MOST_TASKS = 40;
 const MOST_CLOSED = 8;
 
-const state = { batch: "", changing: [], listedAt: 0, list: { batches: [], text: "", day: null }, rows: 0,
-  sheets: new Map(), onLane: new Set(), mode: "", shown: "" };
+const state = { batch: "", changing: [], listedAt: 0, rows: 0, mode: "", shown: "",
+  list: { batches: [], text: "", day: null }, sheets: new Map(), onLane: new Set() };
 let place;
 
 // ---- which batches there are
@@ -259,7 +260,7 @@ async function askList() {
 }
 
 export async function build(section) {
-  await loadStyles("forms.css", "desk.css");
+  await loadStyles("parts.css", "forms.css", "desk.css");
   const list = (className) => make("ol", { className });
   place = { pending: make("p", { className: "pending", role: "status" }), told: list("told-list"),
     tasks: list("tasks"), runs: list("plain-list"), closed: list("plain-list"),

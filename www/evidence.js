@@ -5,10 +5,11 @@
 import { addWords, say } from "./words.js";
 import { FIELDS, KINDS, readEntry } from "./entered.js";
 import { deskChoice } from "./mydesk.js";
-import { dueWords } from "./evidenceshown.js";
-import { grams, spellDay } from "./evidencewords.js";
+import { dueWords, spellDay } from "./evidenceshown.js";
+import { grams } from "./evidencewords.js";
 import { isReady, makeSaid, sendAct, tell } from "./acts.js";
-import { loadStyles, make, notice, table, tag } from "./page.js";
+import { loadStyles, make, notice, tag } from "./page.js";
+import { table } from "./parts.js";
 import { Missing, reach } from "./office.js";
 import { soonPage } from "./soon.js";
 
@@ -114,7 +115,7 @@ function choice(forms) {
 }
 
 export async function build(section) {
-  await loadStyles("forms.css");
+  await loadStyles("parts.css", "tables.css", "forms.css");
   const first = await ask("newest").catch(() => null);
   if (!first) return void soonPage("evidence").build(section);
   const [newest, due] = [make("div", { className: "scroll" }), make("div", { role: "status" })];

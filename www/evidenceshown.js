@@ -1,16 +1,22 @@
 // Evidence on other pages: the newest of each on a batch's sheet, and on the board alarms for what
 // is overdue or not in order. Where no archive answers, neither says anything of it.
 
-import { addWords, say } from "./words.js";
+import { LANGUAGE, addWords, say } from "./words.js";
 import { make } from "./page.js";
 import { reach } from "./office.js";
-import { spellDay } from "./evidencewords.js";
 
 // How often the board asks, and how often where no archive answered, in ms; and how long it shows
 // that the archive and a book differ.
 const EVERY = 60_000, SELDOM = 600_000, DAY = 86_400_000;
 
 addWords({
+  "kind.scale": ["Check of a scale", "Prüfung einer Waage"],
+  "kind.tare": ["Tare of a product", "Tara einer Ware"],
+  "kind.density": ["Density of a product", "Dichte einer Ware"],
+  "kind.uncertainty": ["Errors of measuring", "Messfehler"],
+  "result.good": ["in order", "in Ordnung"],
+  "result.more": ["weigh 25 empties", "25 leere wiegen"],
+  "result.bad": ["not in order", "nicht in Ordnung"],
   "due.old": ["{kind}, {subject}: older than {days} days, do it again",
     "{kind}, {subject}: älter als {days} Tage, neu machen"],
   "due.more": ["{kind}, {subject}: weigh 25 empties", "{kind}, {subject}: 25 leere wiegen"],
@@ -21,6 +27,10 @@ addWords({
   noProofs: ["The archive has no evidence on this product or its scales.",
     "Das Archiv hat keine Nachweise zu dieser Ware oder ihren Waagen."],
 });
+
+// The hour of a record, in ms of UTC, by the clock of this machine.
+export const spellDay = (moment) => new Date(moment).toLocaleString(LANGUAGE ? "de" : "en-GB",
+  { dateStyle: "short", timeStyle: "short" });
 
 async function ask(path) {
   const answer = await reach(`archive/${path}`).catch(() => null);

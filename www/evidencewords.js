@@ -1,21 +1,14 @@
-// The words of evidence, in both languages.
+// The words of the page of evidence, in both languages.
 
-import { LANGUAGE, addWords } from "./words.js";
+import { addWords } from "./words.js";
 import { grams as spell } from "./numbers.js";
 
 addWords({
-  "kind.scale": ["Check of a scale", "Prüfung einer Waage"],
-  "kind.tare": ["Tare of a product", "Tara einer Ware"],
-  "kind.density": ["Density of a product", "Dichte einer Ware"],
-  "kind.uncertainty": ["Errors of measuring", "Messfehler"],
   "head.kind": ["What", "Was"],
   "head.subject": ["Of", "Von"],
   "head.when": ["When", "Wann"],
   "head.who": ["Who", "Wer"],
   "head.result": ["Is", "Ist"],
-  "result.good": ["in order", "in Ordnung"],
-  "result.more": ["weigh 25 empties", "25 leere wiegen"],
-  "result.bad": ["not in order", "nicht in Ordnung"],
   "enter.subject": ["of what", "wovon"],
   "enter.pairs": ["Weight and what was shown, g, one pair a line",
     "Gewicht und Anzeige, g, ein Paar je Zeile"],
@@ -41,7 +34,3 @@ addWords({
 });
 
 export const grams = (thousandths) => (thousandths === undefined ? "" : spell(thousandths));
-
-// The hour of a record, in ms of UTC, by the clock of this machine.
-export const spellDay = (moment) => new Date(moment).toLocaleString(LANGUAGE ? "de" : "en-GB",
-  { dateStyle: "short", timeStyle: "short" });

@@ -33,7 +33,8 @@ export function forecastWords(forecast, sheet) {
     empty: () => ["early", "early", say("noPacks"), ""],
     early: () => ["early", "early", say("tooEarly"),
       why.join(" · ") || say("fewPacks", { count: count(sheet.population) })],
-    held: () => ["held", "held", word("held"), why.join(" · ")],
+    // what holds it comes first
+    held: () => ["held", "held", word("held"), why.reverse().join(" · ")],
     edge: () => ["edge", "warn", fails(), why.join(" · ")],
     fail: () => ["fail", "warn", fails(), why.join(" · ")],
     ok: () => ["ok", "pass", say("wouldRelease"), ""],

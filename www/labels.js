@@ -4,8 +4,10 @@
 import * as office from "./office.js";
 import { addWords, say } from "./words.js";
 import { count, grams, quantity } from "./numbers.js";
-import { make, put, table } from "./page.js";
-import { packAt, packsOf } from "./follow.js";
+import { loadStyles, make, put } from "./page.js";
+import { table } from "./parts.js";
+import { packAt } from "./packs.js";
+import { packsOf } from "./batchpacks.js";
 
 addWords({
   pickTitle: ["Pick list of {batch}: {count} packs", "Suchliste {batch}: {count} Packungen"],
@@ -69,6 +71,7 @@ function listTable(sheet, packs) {
 
 // Draws the pick list into a place, with buttons to print it and to save its labels.
 export async function open(place, sheet, leave) {
+  await loadStyles("tables.css");
   const said = make("p", { role: "status", className: "quiet" });
   place.replaceChildren(make("section", { className: "panel picklist" }, said));
   const packs = await drawnPacks(sheet, (found, all) => {

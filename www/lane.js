@@ -3,59 +3,19 @@
 
 import * as office from "./office.js";
 import { MOST_PACKS, limitsOf } from "./rules.js";
-import { addWords, say, time, word } from "./words.js";
+import { CODE, addWords, say, time, word } from "./words.js";
 import { ago, count, grams, mass, quantity } from "./numbers.js";
-import { Follower, packAt } from "./follow.js";
-import { icon, loadStyles, make, meter, put, shape, signalTag } from "./page.js";
+import { Follower } from "./follow.js";
+import { packAt } from "./packs.js";
+import { icon, loadStyles, make, meter, put, shape } from "./page.js";
+import { signalTag } from "./parts.js";
 import { keepText, readText } from "./store.js";
 import { forecastOf } from "./forecast.js";
 import { forecastWords } from "./forecastwords.js";
 import { idleWords } from "./standing.js";
 import { laneWords, settings } from "./settings.js";
 
-addWords({
-  PASS: ["PASS", "GUT"],
-  REJECT: ["REJECT", "RAUS"],
-  WAIT: ["Waiting for a pack", "Wartet auf Packung"],
-  IDLE: ["No batch", "Keine Charge"],
-  OFFLINE: ["No answer", "Keine Antwort"],
-  waitsSince: ["Since {time} no pack came.", "Seit {time} kam keine Packung."],
-  idleText: ["This lane has no batch now. The plan of the hall gives it one.",
-    "Diese Linie hat jetzt keine Charge. Der Plan der Halle gibt ihr eine."],
-  waitsText: ["This lane waits for a batch. Scan one, or choose it. Until then packs are turned "
-    + "aside.",
-    "Diese Linie wartet auf eine Charge. Eine scannen oder wählen. Bis dahin werden Packungen "
-      + "ausgeschleust."],
-  changeBatch: ["Change batch", "Charge wechseln"],
-  offline: ["The book hasn't answered for {time}. What stands here is old.",
-    "Das Buch antwortet seit {time} nicht. Was hier steht, ist alt."],
-  gateOpens: ["The gate opens.", "Das Tor öffnet."],
-  shut: ["Take it off the belt. It doesn't count.", "Vom Band nehmen. Sie zählt nicht."],
-  "why allowance": ["Too light, and one in forty is used up.",
-    "Zu leicht, und 1 von 40 ist verbraucht."],
-  "why inadequate": ["Far too light.", "Viel zu leicht."],
-  "why held": ["The whole batch is held.", "Die ganze Charge ist gesperrt."],
-  "why full": ["The batch has 10 000 packs.", "Die Charge hat 10 000 Packungen."],
-  "more allowance": ["{net} g is below T1, {t1} g.", "{net} g liegt unter T1, {t1} g."],
-  "more inadequate": ["{net} g is below T2, {t2} g.", "{net} g liegt unter T2, {t2} g."],
-  "more held": ["A pack that counts is inadequate. Call the office.",
-    "Eine Packung, die zählt, ist unzulässig. Das Büro rufen."],
-  "more full": ["Call the office: the next batch is needed.",
-    "Das Büro rufen: die nächste Charge ist nötig."],
-  lastTen: ["Last ten packs", "Letzte zehn Packungen"],
-  packNamed: ["pack {pack}", "Packung {pack}"],
-  packsThere: ["Packs of 10 000", "Packungen von 10 000"],
-  lightOf: ["Non-standard of allowed", "Untermaß von erlaubt"],
-  overNominal: ["Average over nominal", "Mehr als Nennmenge"],
-  noneYet: ["No pack yet", "Noch keine Packung"],
-  whichLane: ["Which lane is this?", "Welche Linie ist das?"],
-  whichHint: ["This browser keeps it. A lane that weighs has its batch beside it.",
-    "Dieser Browser behält es. Bei einer Linie, die wiegt, steht die Charge."],
-  voidLast: ["Void pack {pack}", "Packung {pack} streichen"],
-  voidNone: ["Void a pack", "Packung streichen"],
-  otherLane: ["Another lane", "Andere Linie"],
-  spokenSignal: ["{word}. Pack {pack}, {net} g. {why}", "{word}. Packung {pack}, {net} g. {why}"],
-});
+addWords((await import(`./lane_${CODE}.js`)).default);
 
 const KEPT = "hall.lane";
 const SHOWN = 10;
@@ -213,7 +173,7 @@ function putProgress() {
     part("lightOf", say("ofAllowed", { used: count(sheet.nonstandard),
       allowed: count(forecast.allowed) }), "", meter(sheet.nonstandard, forecast.allowed,
       forecast.over ? "warn" : "")),
-    part("overNominal", `${grams(above, 2, true)} g`, ` · ${mass(aboveAll, true)}`));
+    part("overNominal", `${grams(above, 2, true)} g`, mass(aboveAll, true)));
 }
 
 function putHead() {
@@ -314,7 +274,7 @@ function buildStation() {
 }
 
 export async function build(section) {
-  await loadStyles("forecast.css", "forms.css", "lane.css");
+  await loadStyles("parts.css", "tables.css", "forecast.css", "lane.css");
   place = { section };
 }
 

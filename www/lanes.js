@@ -1,14 +1,18 @@
 // The lanes and batches of the hall, as a board follows them.
 
 import * as office from "./office.js";
-import { Follower, packAt, packs } from "./follow.js";
+import { Follower } from "./follow.js";
+import { packAt, packs } from "./packs.js";
 
 // Rows that are read at first, and at most at once; of more the newest are seen, and counted for
 // those that weren't.
 const MOST_ROWS_ASKED = 1_024;
-export const LAST_PACKS = 60;
+const LAST_PACKS = 60;
 const MOST_BATCHES = 16;
 const MINUTE = 60_000;
+// The sheet of a batch of which packs come is asked this often, in milliseconds: what it says is
+// the forecast, and each question costs as much as a hundred packs.
+const SHEET_EVERY = 2_000;
 // A rate is told when packs were counted for so long.
 const LEAST_COUNTED = 10_000;
 
@@ -17,7 +21,7 @@ const LEAST_COUNTED = 10_000;
 export class Hall {
   constructor() {
     Object.assign(this, { lanes: new Map(), sheets: new Map(), follower: new Follower(), since: 0,
-      apart: 1, counted: 0 });
+      apart: 1, counted: 0, stale: new Set(), askedAt: new Map() });
   }
 
   // Asks what is new. Gives back how many rows the book has.
@@ -35,16 +39,15 @@ export class Hall {
 
   forget() {
     this.since = 0;
-    this.lanes.clear();
-    this.sheets.clear();
+    for (const kept of [this.lanes, this.sheets, this.stale, this.askedAt]) kept.clear();
   }
 
   async takeNews(news) {
     const isFirst = this.since === 0;
     if (isFirst) this.since = Date.now();
     this.apart = news.apart;
-    const touched = this.takePacks(news.fresh, isFirst);
-    for (const batch of news.named) touched.add(batch);
+    this.takePacks(news.fresh, isFirst);
+    const touched = new Set(news.named);
     for (const [number] of news.moved) this.touch(touched, packs.get(number)?.batch);
     if (news.isGap) await this.askLanes(touched);
     else this.takeLanes();
@@ -52,7 +55,7 @@ export class Hall {
       this.touch(touched);
       await Promise.all([...this.lanes.values()].map(askShown));
     }
-    await this.askSheets(touched);
+    await this.askSheets(new Set([...touched, ...this.due()]));
     prune(this.lanes);
   }
 
@@ -61,17 +64,26 @@ export class Hall {
     for (const each of batch ? [batch] : this.sheets.keys()) touched.add(each);
   }
 
-  // Takes new packs to their lanes. Says which batches they are of.
+  // Takes new packs to their lanes; their batches have other sheets than were asked.
   takePacks(found, isFirst) {
-    const touched = new Set();
+    const came = new Map();
     for (const pack of found) {
       const lane = this.laneOf(pack.lane);
-      lane.packs = [...lane.packs, pack.number].slice(-LAST_PACKS);
-      if (!isFirst) lane.times.push([Date.now(), this.apart]);
-      lane.at = Date.now();
-      touched.add(pack.batch);
+      lane.packs.push(pack.number);
+      came.set(lane, (came.get(lane) ?? 0) + 1);
+      this.stale.add(pack.batch);
     }
-    return touched;
+    for (const [lane, many] of came) {
+      lane.packs.splice(0, lane.packs.length - LAST_PACKS);
+      if (!isFirst) lane.times.push([Date.now(), many * this.apart]);
+      lane.at = Date.now();
+    }
+  }
+
+  // The batches of which packs came, and whose sheets were asked long enough ago.
+  due() {
+    const old = Date.now() - SHEET_EVERY;
+    return [...this.stale].filter((batch) => (this.askedAt.get(batch) ?? 0) <= old);
   }
 
   laneOf(number) {
@@ -99,19 +111,24 @@ export class Hall {
   }
 
   async askSheets(batches) {
+    for (const batch of batches) this.askedAt.set(batch, Date.now());
     for (const sheet of await Promise.all([...batches].map(office.sheet))) {
       if (!sheet.refused) this.sheets.set(sheet.batch, sheet);
     }
+    for (const batch of batches) this.stale.delete(batch);
     const running = [...this.lanes.values()].map((lane) => lane.batch);
     const old = [...this.sheets.keys()].filter((batch) => !running.includes(batch));
     const tooMany = Math.max(0, this.sheets.size - MOST_BATCHES);
-    for (const batch of old.slice(0, tooMany)) this.sheets.delete(batch);
+    for (const batch of old.slice(0, tooMany)) {
+      this.sheets.delete(batch);
+      this.askedAt.delete(batch);
+    }
   }
 
   // Packs a minute of a lane, or null as long as they weren't counted for long enough.
   rateOf(lane) {
     if (this.counted < LEAST_COUNTED) return null;
-    const seen = lane.times.reduce((sum, [, apart]) => sum + apart, 0);
+    const seen = lane.times.reduce((sum, [, many]) => sum + many, 0);
     return seen * MINUTE / Math.min(MINUTE, this.counted);
   }
 

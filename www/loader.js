@@ -4,9 +4,10 @@
 import * as office from "./office.js";
 import { addNames, names } from "./names.js";
 import { addWords, say } from "./words.js";
-import { atRows, settledPacks } from "./follow.js";
+import { atRows } from "./packs.js";
 import { make, put } from "./page.js";
 import { count } from "./numbers.js";
+import { settledPacks } from "./batchpacks.js";
 
 addWords({
   reading: ["{found} of {all} packs read, at row {row}",

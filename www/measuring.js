@@ -3,7 +3,7 @@
 // the sample is doing: defective packs against the numbers of the plan, mean, s and limit.
 
 import * as office from "./office.js";
-import { addWords, say } from "./words.js";
+import { CODE, addWords, say } from "./words.js";
 import { empty, farOff, fault, gross, isFarOff, isReady, makeSaid, read, sendAct } from
   "./acts.js";
 import { contentsCheck, defectsOf, meanCheck } from "./sample.js";
@@ -11,43 +11,10 @@ import { count, fixed, grams } from "./numbers.js";
 import { icon, make, notice, put, shape, tag } from "./page.js";
 import { keepMeasured, measuredOf } from "./measured.js";
 import { limitsOf, planOf } from "./rules.js";
-import { packAt, packsOf } from "./follow.js";
+import { packAt } from "./packs.js";
+import { packsOf } from "./batchpacks.js";
 
-addWords({
-  mPlace: ["{at} of {all}", "{at} von {all}"],
-  mLane: ["lane {lane}", "Linie {lane}"],
-  mOrder: ["lane {lane}, no. {place} of {all} there in this batch",
-    "Linie {lane}, dort Nr. {place} von {all} dieser Charge"],
-  mForMean: ["counts for the mean", "zählt für den Mittelwert"],
-  mGross: ["Whole pack, g", "Ganze Packung, g"],
-  mEmpty: ["Empty pack, g", "Leere Packung, g"],
-  mOnLane: ["weighed on the lane: {gross} g", "auf der Linie gewogen: {gross} g"],
-  mContents: ["contents {net} g", "Inhalt {net} g"],
-  mGood: ["not below T1, {limit} g", "nicht unter T1, {limit} g"],
-  mLight: ["defective: below T1, {limit} g", "fehlerhaft: unter T1, {limit} g"],
-  mType: ["Type or let the scale type, then Enter",
-    "Tippen oder die Waage tippen lassen, dann Enter"],
-  mRecord: ["Record", "Erfassen"],
-  mFarText: ["Enter again records it. A measurement can't be taken back.",
-    "Noch einmal Enter erfasst es. Eine Nachwägung kann nicht zurückgenommen werden."],
-  mLeave: ["Stop measuring", "Nachwiegen verlassen"],
-  mSoFar: ["So far", "Bisher"],
-  mDefects: ["Defective, d1", "Fehlerhaft, d1"],
-  mDefects2: ["Defective, d1 + d2", "Fehlerhaft, d1 + d2"],
-  mAccepts: ["c1 = {c1} accepts, r1 = {r1} rejects", "c1 = {c1} nimmt an, r1 = {r1} weist zurück"],
-  mAccepts2: ["c2 = {c2} accepts, r2 = {r2} rejects", "c2 = {c2} nimmt an, r2 = {r2} weist zurück"],
-  mMean: ["Mean of the first {means}", "Mittel der ersten {means}"],
-  mNeed: ["at least {need} g (Qn − {k}·s), rounded", "mindestens {need} g (Qn − {k}·s), gerundet"],
-  mKnown: ["of {known}; others' weights aren't known here",
-    "von {known}; die Gewichte anderer sind hier nicht bekannt"],
-  mSpread: ["s", "s"],
-  mLast: ["Recorded here", "Hier erfasst"],
-  mAll: ["{done} of {all} measured", "{done} von {all} nachgewogen"],
-  mDone: ["All {all} are measured.", "Alle {all} sind nachgewogen."],
-  "check accepts": ["the contents check accepts", "die Einzelinhalte sind angenommen"],
-  "check rejects": ["the contents check rejects", "die Einzelinhalte sind zurückgewiesen"],
-  "check open": ["it stays open: a second sample", "es bleibt offen: eine zweite Probe"],
-});
+addWords((await import(`./measuring_${CODE}.js`)).default);
 
 const MEASURED_ALREADY = 30;
 const SQUARES = 30;

@@ -1,6 +1,6 @@
 // Small parts of which the pages are made.
 
-import { say, word } from "./words.js";
+import { say } from "./words.js";
 
 const ATTRIBUTES = ["role", "for", "list", "scope", "headers"];
 
@@ -26,13 +26,6 @@ export function shape(name, attributes = {}, ...children) {
 // Puts a text where it differs, so that nothing is drawn or spoken twice.
 export function put(place, text) {
   if (place.textContent !== String(text)) place.textContent = text;
-}
-
-// Puts parts in the place of those that are there where they differ, so that a link keeps its
-// focus.
-export function redraw(place, parts) {
-  const now = make("div", {}, parts);
-  if (now.innerHTML !== place.innerHTML) place.replaceChildren(...now.childNodes);
 }
 
 const ICONS = {
@@ -62,21 +55,6 @@ export function tag(kind, sign, text) {
   return make("span", { className: `tag ${kind}` }, icon(sign), make("span", {}, text));
 }
 
-export function signalTag(signal) {
-  const isPass = signal === "pass";
-  return isPass ? tag("calm", "pass", word(signal)) : tag("alarm", "reject", word(signal));
-}
-
-// A verdict as its word, with what fails.
-export function verdictTag(verdict) {
-  if (!verdict) return tag("calm", "dot", say("noVerdict"));
-  const [first, ...reasons] = verdict.split(" ");
-  const sign = { released: "pass", withheld: "reject" }[first] ?? "dot";
-  const kind = { released: "ok", withheld: "alarm" }[first] ?? "calm";
-  const why = reasons.length ? `: ${reasons.map(word).join(", ")}` : "";
-  return tag(kind, sign, word(first) + why);
-}
-
 // How much of what is allowed is used: the bar ends at what is allowed, and what is over it lies
 // behind a tick. The words beside it say the same.
 export function meter(used, allowed, kind = "") {
@@ -88,21 +66,6 @@ export function meter(used, allowed, kind = "") {
     : [bar("over", inside, 100 - inside), bar("tick", Math.max(0, inside - .6), .8)];
   return shape("svg", { class: `meter ${kind}`, viewBox: "0 0 100 8", "aria-hidden": "true",
     preserveAspectRatio: "none" }, bar("track", 0, 100), bar("fill", 0, inside), over);
-}
-
-// A table with a caption and heads; "right" in `sides` puts a column's figures to the right.
-export function table(caption, heads, rows, sides = []) {
-  const cell = (kind) => (text, at) => make(kind,
-    { className: sides[at] ?? "", scope: kind === "th" ? "col" : null }, text);
-  const line = (cells, kind) => make("tr", {}, cells.map(cell(kind)));
-  return make("table", {}, make("caption", {}, caption), make("thead", {}, line(heads, "th")),
-    make("tbody", {}, rows.map((row) => line(row, "td"))));
-}
-
-// Facts, each with its name and, in small, what belongs to it.
-export function facts(pairs, className = "facts") {
-  return make("dl", { className }, pairs.map(([name, value, more]) => make("div", {},
-    make("dt", {}, name), make("dd", {}, value, more ? make("small", {}, more) : null))));
 }
 
 export function notice(kind, sign, title, ...more) {

@@ -4,7 +4,7 @@
 // sign.
 
 import * as office from "./office.js";
-import { addWords, say, time, word } from "./words.js";
+import { CODE, addWords, say, time, word } from "./words.js";
 import { allowedOf, limitsOf } from "./rules.js";
 import { contentsCheck } from "./sample.js";
 import { count, day, fixed, grams, percent, quantity } from "./numbers.js";
@@ -18,94 +18,7 @@ import { readPaper } from "./paper.js";
 import { samplesMeasured, samplesOfPaper, tareOf, testOf } from "./reference.js";
 import { tareChanges } from "./control.js";
 
-addWords({
-  sheetTitle: ["Batch sheet", "Chargenblatt"],
-  system: ["average quantity system, Directive 76/211/EEC",
-    "Füllmengen nach Durchschnitt, Richtlinie 76/211/EWG"],
-  five: ["The five checks", "Die fünf Prüfungen"],
-  check: ["Check", "Prüfung"],
-  found: ["Found", "Gefunden"],
-  needed: ["Needed", "Nötig"],
-  result: ["Result", "Ergebnis"],
-  onSample: ["reference test, on the sample", "Referenzprüfung, an der Probe"],
-  onAll: ["all packs that count", "alle Packungen, die zählen"],
-  cContents: ["Contents", "Einzelinhalt"],
-  cMean: ["Mean", "Mittelwert"],
-  cAverage: ["Average", "Durchschnitt"],
-  cAllowance: ["Allowance", "1 von 40"],
-  cInadequate: ["Inadequate", "Unzulässig"],
-  fContents: ["d1 = {d1} of {first}", "d1 = {d1} von {first}"],
-  fContents2: ["d1 = {d1} of {first}; d2 = {d2}, d1 + d2 = {both}",
-    "d1 = {d1} von {first}; d2 = {d2}, d1 + d2 = {both}"],
-  nContents: ["d1 ≤ c1 = {c1} accepts, ≥ r1 = {r1} rejects", "d1 ≤ c1 = {c1} nimmt an, ≥ r1 = {r1} "
-    + "weist zurück"],
-  nContents2: ["; then d1 + d2 ≤ c2 = {c2}", "; dann d1 + d2 ≤ c2 = {c2}"],
-  fMean: ["x̄ ≈ {mean} g of the first {means}, s ≈ {s} g",
-    "x̄ ≈ {mean} g der ersten {means}, s ≈ {s} g"],
-  nMean: ["x̄ ≥ Qn − {k}·s ≈ {limit} g", "x̄ ≥ Qn − {k}·s ≈ {limit} g"],
-  noWeights: ["the weights stand in the paper", "die Gewichte stehen im Papier"],
-  notMeasured: ["not measured yet", "noch nicht nachgewogen"],
-  fAverage: ["≈ {average} g of {count} packs", "≈ {average} g von {count} Packungen"],
-  nAverage: ["≥ Qn = {nominal} g", "≥ Qn = {nominal} g"],
-  fAllowance: ["{nonstandard} below T1 (≈ {share})", "{nonstandard} unter T1 (≈ {share})"],
-  nAllowance: ["at most {allowed}, one in forty", "höchstens {allowed}, 1 von 40"],
-  fInadequate: ["{inadequate} below T2", "{inadequate} unter T2"],
-  nInadequate: ["none", "keine"],
-  holds: ["holds", "erfüllt"],
-  fails: ["fails", "verfehlt"],
-  open: ["open", "offen"],
-  nominalLong: ["Nominal quantity Qn", "Nennmenge Qn"],
-  error: ["Tolerable error TNE", "Zulässiger Fehler TNE"],
-  densityOf: ["Density, g a litre", "Dichte, g je Liter"],
-  planRow: ["Plan for {count} packs, {mode}: first {first} (c1 {c1}, r1 {r1}), second {second} "
-    + "(c2 {c2}, r2 {r2}), mean of {means}, k {k}",
-  "Plan für {count} Packungen, {mode}: erste {first} (c1 {c1}, r1 {r1}), zweite {second} "
-    + "(c2 {c2}, r2 {r2}), Mittel von {means}, k {k}"],
-  "mode keep": ["kept", "heil"],
-  "mode destroy": ["opened", "geöffnet"],
-  chartHead: ["All packs in order of weighing", "Alle Packungen, wie gewogen"],
-  weights: ["{which}, in drawing order, g", "{which}, wie gezogen, g"],
-  "which first": ["First sample", "Erste Probe"],
-  "which second": ["Second sample", "Zweite Probe"],
-  drawWord: ["word {word}", "Wort {word}"],
-  contentsG: ["contents", "Inhalt"],
-  grossG: ["gross", "brutto"],
-  emptyG: ["empty", "leer"],
-  packNo: ["pack", "Nr."],
-  lightMark: ["▼ below T1 ({t1} g): defective. Shaded: counts for the mean.",
-    "▼ unter T1 ({t1} g): fehlerhaft. Getönt: zählt für den Mittelwert."],
-  tares: ["Tares in force for its packs", "Taren, die für ihre Packungen gelten"],
-  tareDay: ["{day}: {tare} g", "{day}: {tare} g"],
-  tareSince: ["{tare} g from pack {pack} on", "{tare} g ab Packung {pack}"],
-  tareNote: ["As they now are; a corrected one judged its packs anew.",
-    "Wie sie jetzt sind; eine berichtigte hat ihre Packungen neu beurteilt."],
-  outs: ["Rejected and voided packs: {count}", "Ausgeschleuste und gestrichene Packungen: {count}"],
-  noOuts: ["No pack was rejected or voided.", "Keine Packung wurde ausgeschleust oder gestrichen."],
-  rounded: ["≈ is rounded. The verdict and each result of a closed batch are the book's, decided "
-    + "in whole milligrams.",
-  "≈ ist gerundet. Das Urteil und jedes Ergebnis einer abgeschlossenen Charge sind die des Buchs, "
-    + "in ganzen Milligramm entschieden."],
-  notClosed: ["Not closed: results of all packs are those of now.",
-    "Nicht abgeschlossen: die Ergebnisse aller Packungen sind die von jetzt."],
-  closedAt: ["Closed by row {row}. Fingerprint at the closing: hall audit --book BOOK --rows {row}",
-    "Abgeschlossen mit Zeile {row}. Fingerabdruck beim Abschluss: "
-      + "hall audit --book BUCH --rows {row}"],
-  proveIt: ["To check it: hall paper --batch {batch}, then prove.",
-    "Zum Prüfen: hall paper --batch {batch}, dann prove."],
-  needArchive: ["Who and when, and the evidence on tares and scales, need the archive of the hall.",
-    "Wer und wann, und die Nachweise zu Taren und Waagen, brauchen das Archiv der Halle."],
-  byArchive: ["Who and when: hall-archive story BOOK {batch}.",
-    "Wer und wann: hall-archive story BUCH {batch}."],
-  signed: ["Checked by, date", "Geprüft von, am"],
-  printed: ["Printed {day} {time} from row {row} of the book.",
-    "Gedruckt {day} {time} aus Zeile {row} des Buchs."],
-  choosePaper: ["Paper of the batch (hall paper --batch {batch})",
-    "Papier der Charge (hall paper --batch {batch})"],
-  notItsPaper: ["This file isn't the paper of {batch}.",
-    "Diese Datei ist nicht das Papier von {batch}."],
-  differs: ["The paper's figures and the verdict of the book differ: have both checked.",
-    "Die Zahlen des Papiers und das Urteil des Buchs widersprechen sich: beides prüfen lassen."],
-});
+addWords((await import(`./sheet_${CODE}.js`)).default);
 
 const CHART_WIDE = 694;
 const COLUMNS = 4;
@@ -333,7 +246,7 @@ async function draw(place, sheet, packs) {
 const page = new BatchPage("sheet", draw);
 
 export async function build(section) {
-  await loadStyles("figures.css", "sheet.css");
+  await loadStyles("parts.css", "tables.css", "figures.css", "sheet.css");
   page.build(section);
 }
 

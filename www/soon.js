@@ -2,7 +2,7 @@
 // instead.
 
 import { addWords, say } from "./words.js";
-import { make, notice } from "./page.js";
+import { loadStyles, make, notice } from "./page.js";
 
 addWords({
   needsArchive: ["This page needs the archive of the hall, which isn't set up here.",
@@ -18,8 +18,11 @@ addWords({
 
 export function soonPage(name) {
   return {
-    build: (section) => section.append(make("h1", {}, say(name)),
-      notice("", "dot", say("needsArchive"), make("p", {}, say(`instead ${name}`)))),
+    async build(section) {
+      await loadStyles("parts.css");
+      section.append(make("h1", {}, say(name)),
+        notice("", "dot", say("needsArchive"), make("p", {}, say(`instead ${name}`))));
+    },
     refresh: async () => (await import("./office.js")).summary(),
   };
 }

@@ -41,21 +41,31 @@ function lines({ nominal, t1, t2 }, { up, right, isNamed, letters }, high) {
 const cross = ({ x, y }, size) => `M${x - size} ${y - size}l${2 * size} ${2 * size}`
   + `m0 ${-2 * size}l${-2 * size} ${2 * size}`;
 
-// Draws packs into a place of this size, between the limits of their batch.
-export function spark(place, packs, limits, wide, high) {
+// Puts the last packs into a picture: four attributes, whatever came.
+function putPacks({ line, dots, crosses, last }, { across, up, size }, packs) {
+  const points = packs.slice(-MOST).map(({ net, signal }, at, shown) => ({
+    x: across(at + MOST - shown.length), y: up(net), isPass: signal === "pass" }));
+  const [passed, rejected] = [true, false].map((isPass) =>
+    points.filter((point) => point.isPass === isPass));
+  line.setAttribute("d", points.length > 1
+    ? `M${points.map(({ x, y }) => `${x} ${y}`).join("L")}` : "");
+  dots.setAttribute("d", passed.map(({ x, y }) => `M${x} ${y}h0`).join(""));
+  crosses.setAttribute("d", rejected.map((point) => cross(point, size)).join(""));
+  const { x, y } = points.at(-1) ?? { x: -99, y: 0 };
+  last.setAttribute("transform", `translate(${x} ${y})`);
+}
+
+// Draws the limits of a batch into a place of this size. Gives back what puts packs between them,
+// as often as some come.
+export function spark(place, limits, wide, high) {
   const scale = scales(limits, wide, high);
   const { size } = scale;
-  const points = packs.slice(-MOST).map(({ net, signal }, at, shown) => ({
-    x: scale.across(at + MOST - shown.length), y: scale.up(net), isPass: signal === "pass" }));
-  const path = (kind, d, width) => shape("path", { class: kind, d, "stroke-width": width });
-  const dots = points.filter(({ isPass }) => isPass).map(({ x, y }) => `M${x} ${y}h0`);
-  const crosses = points.filter(({ isPass }) => !isPass).map((point) => cross(point, size));
-  const last = points.at(-1);
+  const path = (kind, width) => shape("path", { class: kind, "stroke-width": width });
+  const parts = { line: path("l-net", size / 3), dots: path("m-pass", size * 1.1),
+    crosses: path("m-reject", size / 2.2),
+    last: shape("circle", { class: "m-cursor", r: size * 1.5 }) };
   place.replaceChildren(shape("svg",
     { viewBox: `0 0 ${wide} ${high}`, width: wide, height: high, "aria-hidden": "true" },
-    lines(limits, scale, high),
-    points.length > 1
-      ? path("l-net", `M${points.map(({ x, y }) => `${x} ${y}`).join("L")}`, size / 3) : [],
-    path("m-pass", dots.join(""), size * 1.1), path("m-reject", crosses.join(""), size / 2.2),
-    last ? shape("circle", { class: "m-cursor", cx: last.x, cy: last.y, r: size * 1.5 }) : []));
+    lines(limits, scale, high), Object.values(parts)));
+  return (packs) => putPacks(parts, scale, packs);
 }

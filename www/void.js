@@ -6,7 +6,7 @@ import { addWords, say } from "./words.js";
 import { count, grams } from "./numbers.js";
 import { deskChoice, lacks, myDesk, onDesk } from "./mydesk.js";
 import { give, outcome } from "./requests.js";
-import { make, put } from "./page.js";
+import { loadStyles, make, put } from "./page.js";
 import { outcomeWords } from "./outcomes.js";
 
 addWords({
@@ -36,7 +36,8 @@ function reasonChoice(chosen) {
 }
 
 // Opens the dialog about a pack.
-export function open(dialog, pack) {
+export async function open(dialog, pack) {
+  await loadStyles("forms.css", "dialog.css");
   const said = make("p", { className: "said", role: "status" });
   const go = make("button", { type: "button", disabled: true }, say("doVoid"));
   const back = make("button", { type: "button", className: "second" }, say("back"));

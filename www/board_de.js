@@ -1,0 +1,41 @@
+// What a board and its alarms say, in German.
+
+export default {
+  allowanceOf: "Untermaß",
+  packsOf: "{count} / {most}",
+  fullIn: "voll in {time}",
+  aboveEach: "Durchschnitt",
+  aMinute: "/min",
+  silentShort: "keine",
+  idleShort: "steht",
+  waitsShort: "keine Charge",
+  fullShort: "Buch voll",
+  rowsLeft: "noch {left} Zeilen",
+  rowsAtMost: "höchstens noch {left} Zeilen",
+  forecastNote: "Vorschau: die drei Prüfungen aller Packungen, wie das Urteil jetzt wäre.",
+  someShown: "Schnelle Linien: etwa 1 von {apart} Packungen ist gezeichnet.",
+  emptyBoard:
+    "Keine Linie hat eine Charge. Am Platz eine Charge eröffnen und ihr eine Linie geben, an der "
+    + "Linie oder im Plan; dann steht sie hier.",
+  spoken: "{lane}, {batch}: {signal}, {net} g, {rate} je Minute. {out}",
+  outOf: "{count} der letzten {all} ausgeschleust, zuletzt: {cause}",
+  noneOut: "Keine der letzten {all} ausgeschleust",
+  soundOn: "Ton ist an",
+  soundOff: "Ton ist aus",
+  // alarms
+  noAlarm: "Kein Alarm. Gerade braucht nichts jemanden.",
+  more: "+ {count} weitere",
+  bookFull: "Das Buch ist voll: keine Packung wird gewogen. Das nächste Buch beginnen",
+  rowsHours: "Noch {left} Zeilen im Buch, bei diesem Tempo für {hours} h: das nächste vorbereiten",
+  rowsLow: "Noch {left} Zeilen im Buch: das nächste vorbereiten",
+  heldBy: "{batch} gesperrt: Packung {pack} streichen oder Tara ändern",
+  heldBySome: "{batch} gesperrt: unzulässige Packung streichen oder Tara ändern",
+  failAverage: "{batch}: Durchschnitt {short} zu wenig. Nächste {next} Packungen: je {each} g",
+  failOther: "{batch} {told}: {why}",
+  fullSoon: "{batch} ist in {time} voll: nächste Charge eröffnen",
+  allowanceNear: "{batch}: {used} von {allowed} erlaubten verbraucht",
+  silent: "{lane}: seit {time} keine Packung",
+  idleSince: "{lane} ({batch}): {why}",
+  idleNone: "{lane}: {why}",
+  countryOver: "{batch}: {used} unter T1, {name} erlaubt {allowed}",
+};

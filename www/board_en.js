@@ -1,0 +1,41 @@
+// What a board and its alarms say, in English.
+
+export default {
+  allowanceOf: "Non-standard",
+  packsOf: "{count} / {most}",
+  fullIn: "full in {time}",
+  aboveEach: "Average",
+  aMinute: "/min",
+  silentShort: "no pack",
+  idleShort: "idle",
+  waitsShort: "no batch",
+  fullShort: "book full",
+  rowsLeft: "{left} rows left",
+  rowsAtMost: "at most {left} rows left",
+  forecastNote: "Forecast: the three checks of all packs, as the verdict would be now.",
+  someShown: "Lanes are fast: about 1 of {apart} packs is drawn.",
+  emptyBoard:
+    "No lane has a batch. Open a batch at a desk and give it a lane, at the lane or in the plan; "
+    + "it then stands here.",
+  spoken: "{lane}, {batch}: {signal}, {net} g, {rate} a minute. {out}",
+  outOf: "{count} of the last {all} rejected, the newest: {cause}",
+  noneOut: "None of the last {all} rejected",
+  soundOn: "Sound is on",
+  soundOff: "Sound is off",
+  // alarms
+  noAlarm: "No alarm. Nothing needs a person now.",
+  more: "+ {count} more",
+  bookFull: "The book is full: no pack is weighed. Begin the next book",
+  rowsHours: "{left} rows left in the book, at the rate of now for {hours} h: prepare the next one",
+  rowsLow: "{left} rows left in the book: prepare the next one",
+  heldBy: "{batch} is held: void pack {pack}, or correct the tare",
+  heldBySome: "{batch} is held: void the inadequate pack, or correct the tare",
+  failAverage: "{batch}: average {short} short. Next {next} packs: {each} g each",
+  failOther: "{batch} {told}: {why}",
+  fullSoon: "{batch} is full in {time}: open the next batch",
+  allowanceNear: "{batch}: {used} of {allowed} of the allowance used",
+  silent: "{lane}: no pack for {time}",
+  idleSince: "{lane} ({batch}): {why}",
+  idleNone: "{lane}: {why}",
+  countryOver: "{batch}: {used} below T1, {name} allows {allowed}",
+};

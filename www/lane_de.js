@@ -1,0 +1,38 @@
+// What the station of a lane says, in German.
+
+export default {
+  PASS: "GUT",
+  REJECT: "RAUS",
+  WAIT: "Wartet auf Packung",
+  IDLE: "Keine Charge",
+  OFFLINE: "Keine Antwort",
+  waitsSince: "Seit {time} kam keine Packung.",
+  idleText: "Diese Linie hat jetzt keine Charge. Der Plan der Halle gibt ihr eine.",
+  waitsText:
+    "Diese Linie wartet auf eine Charge. Eine scannen oder wählen. Bis dahin werden Packungen "
+    + "ausgeschleust.",
+  changeBatch: "Charge wechseln",
+  offline: "Das Buch antwortet seit {time} nicht. Was hier steht, ist alt.",
+  gateOpens: "Das Tor öffnet.",
+  shut: "Vom Band nehmen. Sie zählt nicht.",
+  "why allowance": "Zu leicht, und 1 von 40 ist verbraucht.",
+  "why inadequate": "Viel zu leicht.",
+  "why held": "Die ganze Charge ist gesperrt.",
+  "why full": "Die Charge hat 10 000 Packungen.",
+  "more allowance": "{net} g liegt unter T1, {t1} g.",
+  "more inadequate": "{net} g liegt unter T2, {t2} g.",
+  "more held": "Eine Packung, die zählt, ist unzulässig. Das Büro rufen.",
+  "more full": "Das Büro rufen: die nächste Charge ist nötig.",
+  lastTen: "Letzte zehn Packungen",
+  packNamed: "Packung {pack}",
+  packsThere: "Packungen von 10 000",
+  lightOf: "Untermaß von erlaubt",
+  overNominal: "Mehr als Nennmenge",
+  noneYet: "Noch keine Packung",
+  whichLane: "Welche Linie ist das?",
+  whichHint: "Dieser Browser behält es. Bei einer Linie, die wiegt, steht die Charge.",
+  voidLast: "Packung {pack} streichen",
+  voidNone: "Packung streichen",
+  otherLane: "Andere Linie",
+  spokenSignal: "{word}. Packung {pack}, {net} g. {why}",
+};

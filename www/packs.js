@@ -1,0 +1,25 @@
+// The packs that a page has heard of, and what else is kept of the book until there is another one.
+
+import * as office from "./office.js";
+
+// Packs by their number; null where a row is no pack.
+export const packs = new Map();
+const state = { rows: 0, kept: [packs] };
+
+// What is kept of a book in a map, until there is another book.
+export function keptOfBook() {
+  const kept = new Map();
+  state.kept.push(kept);
+  return kept;
+}
+
+// A book of fewer rows than were seen is another book: nothing that is kept is of it.
+export function atRows(rows) {
+  if (rows < state.rows) for (const kept of state.kept) kept.clear();
+  state.rows = rows;
+}
+
+export async function packAt(number, anew = false) {
+  if (anew || !packs.has(number)) packs.set(number, await office.pack(number));
+  return packs.get(number);
+}
