@@ -1,4 +1,4 @@
-"""The figures of bench/acts.sh: PROGRAM FOLDER ROWS SECONDS."""
+"""The figures of bench/acts.sh: PROGRAM FOLDER ROWS SECONDS [PART..]."""
 
 import os
 import random
@@ -226,8 +226,11 @@ def standby(book):
 
 
 whole = f"{work}/book"
+PARTS = {
+    "text": lambda: text_of(whole),
+    "follower": lambda: (beside_a_follower(False), beside_a_follower(True)),
+    "standby": lambda: standby(whole),
+}
 make_book(whole)
-text_of(whole)
-beside_a_follower(False)
-beside_a_follower(True)
-standby(whole)
+for name in sys.argv[5:] or PARTS:
+    PARTS[name]()

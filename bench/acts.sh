@@ -15,7 +15,9 @@
 # copy has caught up: the processor time of the standby with its `follow`, in percent of one
 # processor (aim 2 %), and how long the copy lacks a row (aim 0.3 s at most).
 #
-# usage: bench/acts.sh FOLDER [ROWS [SECONDS]]     (package sqlite3; the standby's pause EVERY)
+# usage: bench/acts.sh FOLDER [ROWS [SECONDS [PART..]]]
+#        PART is text, follower or standby, all without one; EVERY is the standby's pause
+# needs: sqlite3
 set -eu
 here=$(dirname "$(readlink -f "$0")")/..
 work=$(mktemp -d "$1/hall_acts.XXXXXX")
@@ -25,5 +27,8 @@ trap 'rm -rf "$work"' EXIT
 if [ -z "${HALL:-}" ]; then "$here/hall" run </dev/null >/dev/null; fi
 program=${HALL:-$here/crates/hall_cli/out/hall_cli}
 
+shift
+[ $# -gt 0 ] || set -- 900000
+[ $# -gt 1 ] || set -- "$1" 30
 PYTHONPATH=$here/tests timeout 1800 \
-    python3 -B "$here/bench/acts.py" "$program" "$work" "${2:-900000}" "${3:-30}"
+    python3 -B "$here/bench/acts.py" "$program" "$work" "$@"

@@ -11,24 +11,25 @@ set -eu
 here=$(dirname "$(readlink -f "$0")")
 mebibytes=64
 milliseconds=5
-work=$(mktemp -d)
-device=
-clean() {
-    umount "$work/disk" 2>/dev/null || true
-    [ -z "$device" ] || losetup -d "$device"
-    umount "$work/slow" 2>/dev/null || true
-    rm -rf "$work"
-}
-trap clean EXIT
+# what is mounted here nobody else sees or holds, and all of it goes with this, also where it is killed
+if [ -z "${SLOW_ROOM:-}" ]; then
+    SLOW_ROOM=$(mktemp -d)
+    export SLOW_ROOM
+    trap 'rm -rf "$SLOW_ROOM"' EXIT
+    unshare --mount --pid --fork --kill-child --mount-proc "$0" "$@"
+    exit
+fi
+work=$SLOW_ROOM
 
 mkdir "$work/slow" "$work/disk"
 python3 -B "$here/slow_disk.py" "$work/slow" $mebibytes $milliseconds &
-for _ in 1 2 3 4 5 6 7 8 9 10; do
-    [ -e "$work/slow/disk" ] || sleep 0.5
+tries=0
+until [ -e "$work/slow/disk" ] || [ $tries -eq 120 ]; do
+    tries=$((tries + 1))
+    sleep 0.5
 done
-device=$(losetup -f --show "$work/slow/disk")
-mkfs.ext4 -q -m 0 "$device"
-mount "$device" "$work/disk"
+mkfs.ext4 -q -m 0 "$work/slow/disk"
+mount -o loop "$work/slow/disk" "$work/disk"
 
 # each FOLDER among the words becomes the folder
 for word in "$@"; do
@@ -36,4 +37,8 @@ for word in "$@"; do
     if [ "$word" = FOLDER ]; then word=$work/disk; fi
     set -- "$@" "$word"
 done
-"$@"
+status=0
+"$@" || status=$?
+umount "$work/disk"
+umount -l "$work/slow"
+exit $status

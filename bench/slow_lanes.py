@@ -33,6 +33,8 @@ def rate(program: str, lanes: int) -> float:
         doors=0,
         book=f"{folder}/book",
         port=free_ports(),
+        # cells are files, and so are the gates: nobody reads these
+        pipes=False,
     )
     status = hall.process.wait()
     seconds = time.monotonic() - began

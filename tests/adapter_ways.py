@@ -71,21 +71,28 @@ def gate_time(line: Line) -> float:
 def check_times(program: str, folder: str, packs: int, seed: str) -> None:
     """How long it takes from a weight to the gate, over each kind of way."""
     for kind in ("serial", "tcp"):
-        room = Room(program, f"{folder}/times-{kind}", 1)
-        room.start()
-        line, way = open_line(room, kind, "garvens", 1)
-        sent = iter(range(1, packs + 2))
-
-        def weigh(mass: int) -> float:
-            began = time.monotonic()
-            way.send(garvens(next(sent), mass))
-            return began
-
-        tell_times(kind, measure(packs, weigh, lambda: gate_time(line)))
-        line.end()
-        room.stop()
+        time_line(Room(program, f"{folder}/times-{kind}", 1), kind, kind, "", packs)
     for kind in ("tcp", "rtu"):
         time_modbus(Room(program, f"{folder}/times-modbus-{kind}", 1), kind, packs)
+    room = Room(program, f"{folder}/times-command", 1)
+    command = f'["sh", "-c", "echo O >{room.folder}/garvens-serial.gate"]'
+    time_line(room, "serial", "serial, by a command", f"[gate]\ncommand = {command}\n", packs)
+
+
+def time_line(room: Room, kind: str, name: str, gate: str, packs: int) -> None:
+    """How long it takes from a device's line to the gate's, or to that of a gate's command."""
+    room.start()
+    line, way = open_line(room, kind, "garvens", 1, gate=gate)
+    sent = iter(range(1, packs + 2))
+
+    def weigh(mass: int) -> float:
+        began = time.monotonic()
+        way.send(garvens(next(sent), mass))
+        return began
+
+    tell_times(name, measure(packs, weigh, lambda: gate_time(line)))
+    line.end()
+    room.stop()
 
 
 def time_modbus(room: Room, kind: str, packs: int) -> None:

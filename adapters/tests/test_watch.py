@@ -1,6 +1,8 @@
 """Numbers of a hall: texts as docs/FORMATS.md has them, slots spelled by hand, metrics, alarms."""
 
+import contextlib
 import http.server
+import io
 import os
 import tempfile
 import threading
@@ -242,7 +244,11 @@ class Following(unittest.TestCase):
         with open(str(self.table["file"]), "wb") as book:
             book.write(bytes(SLOT) + rows)
         watch = Watch(watched_of(self.table))
-        said = self.numbers(watch.take())
+        with contextlib.redirect_stderr(io.StringIO()) as errors:
+            said = self.numbers(watch.take())
+            watch.take()
+        # a fault is told once, as long as it is the same
+        self.assertEqual(errors.getvalue().count("copy gone"), 1)
         self.assertEqual(said["hall_copy_rows_behind"], 2)
         self.assertEqual((said["hall_rows"], said["hall_list_rows_behind"]), (4, 2))
         # the archive is ahead of what is known of the file
