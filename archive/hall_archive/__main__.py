@@ -70,9 +70,9 @@ def by_database(name: str) -> Command:
 
 
 def appendix(found: Settings, book: str, batch: str) -> int:
-    from hall_archive import sealing
+    from hall_archive import gathering
 
-    return sealing.write(found, book, batch)
+    return gathering.write(found, book, batch)
 
 
 OF_A_BATCH = ("sheet", "story", "appendix")
