@@ -15,7 +15,7 @@ from typing import Any, NamedTuple
 HERE = os.path.dirname(os.path.realpath(__file__))
 sys.path.insert(0, f"{HERE}/../archive")
 
-from clients import Hall, Lane, OPENING, need, plan  # noqa: E402
+from clients import Hall, Lane, OPENING, Wrong, need, plan  # noqa: E402
 from front_clients import Person  # noqa: E402
 from front_room import BOOK, DOORS, FIRST_PORT, Front, run, wait_until  # noqa: E402
 
@@ -29,6 +29,8 @@ DESKS = {101: "anna", 102: "ben"}
 PEOPLE = {"anna": [101], "ben": [102], "carl": [101, 102], "wall": []}
 REASONS = ('it said "10.1" \\ twice\n', "Tür klemmte – Gebinde leer", "first delivery", "{}\t'`$x")
 FAILED = (500, 502, 503, 504)
+# What the program says where somebody else has a book open, and how often it is asked again.
+IN_USE, TRIES = ": it is in use; ", 40
 
 
 def now() -> int:
@@ -261,8 +263,15 @@ class Work:
     # ---- what is known of the rows
 
     def text(self, path: str = "") -> str:
-        """The rows of the book at rest, as the program prints them."""
-        return run(self.program, "acts", "--book", path or self.path)
+        """The rows of the book at rest, as the program prints them: all of them, so again where the
+        archive reads it at the same time, for its fingerprint."""
+        words = [self.program, "acts", "--book", path or self.path]
+        for _ in range(TRIES):
+            done = subprocess.run(words, capture_output=True, text=True, check=True)
+            if IN_USE not in done.stderr:
+                return done.stdout
+            time.sleep(0.5)
+        raise Wrong(f"the book stays in use: {done.stderr}")
 
     def replay(self, script: list[str]) -> None:
         """Makes a book of a script's lines; what is refused of it isn't in the book."""
