@@ -189,23 +189,32 @@ class Work:
         batch = f"R{len(self.rounds) + 1}"
         setup = OPENING * (not self.rounds) + f"open {batch} P\n" * bool(lanes)
         before = now()
-        self.hall = Hall(
-            self.program,
-            self.folder,
-            plan(setup, [batch] * lanes),
-            book=self.path,
-            lanes=lanes,
-            doors=DOORS + 1,
-            port=FIRST_PORT,
-            connections=999_999,
-        )
-        wait_until(lambda: f":{ARCHIVE_PORT} " in run("ss", "-ltn"), "the doors listen", 60)
+        for _ in range(TRIES):
+            self.hall = Hall(
+                self.program,
+                self.folder,
+                plan(setup, [batch] * lanes),
+                book=self.path,
+                lanes=lanes,
+                doors=DOORS + 1,
+                port=FIRST_PORT,
+                connections=999_999,
+            )
+            wait_until(lambda: self.listens() or self.hall.ended(), "the doors listen", 60)
+            if self.listens():
+                break
+            # the archive had the book open, for its fingerprint: begun again, as the service does
+            time.sleep(0.2)
+        need(self.listens(), f"no hall begins: {self.hall.said()}")
         seeds = [f"{self.seed} {batch} {lane}" for lane in range(1, lanes + 1)]
         timed = [TimedLane(self.hall, at, one, self.pause) for at, one in enumerate(seeds, 1)]
         for lane in timed:
             lane.start()
         if lanes:
             self.rounds.append(Round(batch, before, timed))
+
+    def listens(self) -> bool:
+        return f":{ARCHIVE_PORT} " in run("ss", "-ltn")
 
     def work(self) -> None:
         for desk in self.desks:
