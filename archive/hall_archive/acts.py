@@ -32,7 +32,7 @@ ACTS = """
     ORDER BY f.row"""
 # Where acts come from: all of them, or those of a person.
 ALL = "act a {hint} LEFT JOIN person p ON p.book = a.book AND p.row = a.row"
-OF_ONE = "person p JOIN act a ON a.book = p.book AND a.row = p.row"
+OF_ONE = "person p {first} JOIN act a ON a.book = p.book AND a.row = p.row"
 
 
 class Acts(Spans):
@@ -72,17 +72,18 @@ class Acts(Spans):
                 values[word] = value
         acts = ALL.format(hint=self.hint(values))
         if "person" in values:
-            acts = OF_ONE
+            # SQLite, which counts no rows, would begin with the acts of a book
+            first = "INDEXED BY person_acts CROSS" if self.is_sqlite else ""
+            acts = OF_ONE.format(first=first)
             terms += ["p.book = :book", "p.row > :after", "p.row <= :upto"]
         statement = ACTS.format(acts=acts, terms=" AND ".join(terms))
         found = self.ask(statement, **values, page=PAGE)
         return [{"book": span.name} | dict(row._mapping) for row in found]
 
     def hint(self, values: dict[str, Any]) -> str:
-        """SQLite, which counts no rows, would read all acts of a book."""
+        """The index of acts that SQLite takes: by itself it would read all of a book."""
         words = [word for word in INDEXES if word in values]
-        is_sqlite = self.engine.dialect.name == "sqlite"
-        return f"INDEXED BY act_{words[0]}" if words and is_sqlite else ""
+        return f"INDEXED BY act_{words[0]}" if words and self.is_sqlite else ""
 
 
 def widened(time: Time) -> Time:
