@@ -100,7 +100,10 @@ class Bench:
         self.timed("follows again behind a kill", self.kept.cursor().upto)
         self.room.follower.kill()
         self.work.hall.kill()
-        found = delays(self.work, looks.seen)
+        found = delays(self.work, looks.seen) or [-1]
+        if found == [-1]:
+            lanes = self.work.rounds[-1].lanes
+            self.say(f"no pack is known: {looks.seen[:2]}, {[lane.opened[-2:] for lane in lanes]}")
         parts = [found[len(found) * part // 1000] for part in (500, 990, 999)]
         self.say(
             f"{len(found)} packs stand there after {parts[0]} ms (half), {parts[1]} (99 %),"

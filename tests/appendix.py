@@ -13,8 +13,6 @@ import json
 import os
 import random
 import re
-import shutil
-import subprocess
 import sys
 import tempfile
 from typing import Any
@@ -22,8 +20,16 @@ from typing import Any
 HERE = os.path.dirname(os.path.realpath(__file__))
 sys.path[:0] = [f"{HERE}/../archive"]
 
-from archive_rest import SLOT, Room  # noqa: E402
-from archive_stamps import Authority, openssl  # noqa: E402
+from appendix_spoiled import (  # noqa: E402
+    PROGRAM,
+    Asked,
+    Check,
+    changed_books,
+    make_keys,
+    spoil,
+)
+from archive_rest import Room  # noqa: E402
+from archive_stamps import Authority  # noqa: E402
 from clients import need  # noqa: E402
 
 from hall_archive import evidence, settings, store  # noqa: E402
@@ -32,8 +38,6 @@ from hall_archive.service import People, Witnessing  # noqa: E402
 from hall_archive.store import Store  # noqa: E402
 from hall_archive.witness import Witness  # noqa: E402
 
-CHECK = f"{HERE}/../inspector/hall-appendix"
-PROGRAM = f"{HERE}/../crates/hall_cli/out/hall_cli"
 BOOK, TARE, MOMENT = "day", 10_000, 1_764_585_125_250
 PEOPLE = {101: "anna", 102: "ben"}
 # Packs of a batch, at both sides of the rows of the plans; and goods.
@@ -105,42 +109,11 @@ class Drawn:
         ask.run([self.act(f"measure {pack} {self.gross()}{empty}") for pack in picks.split()])
 
 
-class Asked:
-    """The program over a book."""
-
-    def __init__(self, program: str, path: str) -> None:
-        self.program, self.path = program, path
-
-    def say(self, *words: str, given: str = "") -> str:
-        done = subprocess.run(
-            [self.program, words[0], "--book", self.path, *words[1:]],
-            input=given,
-            capture_output=True,
-            text=True,
-            check=False,
-        )
-        return done.stdout
-
-    def run(self, lines: list[str]) -> list[str]:
-        return self.say("run", given="".join(f"{line}\n" for line in lines)).splitlines()
-
-    def register(self) -> list[tuple[str, str, str]]:
-        rows = [line.split(",") for line in self.say("export").splitlines()[1:]]
-        return [(row[0], row[1], row[-1]) for row in rows]
-
-    def rows(self) -> list[str]:
-        return self.say("acts").splitlines()
-
-
 class Archived(Room):
     """An archive that seals and stamps, of the book."""
 
     def begin(self, own: Authority) -> None:
-        words = ("req", "-x509", "-newkey", "ec", "-pkeyopt", "ec_paramgen_curve:P-256")
-        words += ("-nodes", "-days", "2")
-        for name in ("seal", "other"):
-            key, made = f"{self.folder}/{name}.key", f"{self.folder}/{name}.pem"
-            openssl(*words, "-subj", f"/CN={name}", "-keyout", key, "-out", made)
+        make_keys(self.folder)
         self.name(BOOK)
         with open(self.path, encoding="utf-8") as file:
             text = file.read()
@@ -178,151 +151,6 @@ def front_line(row: str) -> str:
     said = {"time": f"{MOMENT / 1000:.3f}", "took": "0.010", "book": BOOK, "status": "200"}
     said |= {"person": PEOPLE[int(desk)], "row": row.split(" ")[0], "body": json.dumps(body)}
     return json.dumps(said) + "\n"
-
-
-class Check:
-    """The inspector's check, with a machine of his own: files alone, and the program."""
-
-    def __init__(self, program: str, folder: str, authority: str) -> None:
-        self.program, self.folder, self.authority = program, folder, authority
-        self.told = 0
-
-    def run(self, path: str, book: str, seal: str = "seal") -> tuple[int, str]:
-        words = ["--seal", f"{self.folder}/{seal}.pem", "--stamps", self.authority]
-        done = subprocess.run(
-            [CHECK, path, book, *words, "--hall", self.program],
-            capture_output=True,
-            text=True,
-            check=False,
-            timeout=120,
-        )
-        return done.returncode, done.stdout + done.stderr
-
-    def holds(self, path: str, book: str) -> int:
-        status, said = self.run(path, book)
-        need(status == 0 and "differs" not in said, f"{path}: {status}\n{said}")
-        return said.count("same: ")
-
-    def tells(self, what: str, path: str, book: str, seal: str = "seal") -> None:
-        status, said = self.run(path, book, seal)
-        need(status in (1, 2) and what in said, f"{path} for {what!r}: {status}\n{said}")
-        self.told += 1
-
-
-def copied(folder: str, path: str) -> str:
-    """A copy of an appendix with its paper, seal and stamp."""
-    os.makedirs(folder, exist_ok=True)
-    copy = f"{folder}/appendix"
-    for end in ("", ".paper", ".p7s", ".tsr"):
-        shutil.copy(f"{path}{end}", f"{copy}{end}")
-    return copy
-
-
-def put(path: str, change: Any) -> None:
-    with open(path, encoding="ascii", newline="") as file:
-        text = file.read()
-    changed = change(text)
-    need(changed != text, f"{path} isn't changed")
-    with open(path, "w", encoding="ascii", newline="") as file:
-        file.write(changed)
-
-
-def resealed(folder: str, copy: str) -> None:
-    """Seals a changed appendix by the hall's key: what is wrong then is told by paper and book."""
-    key = ("-signer", f"{folder}/seal.pem", "-inkey", f"{folder}/seal.key", "-md", "sha256")
-    openssl("cms", "-sign", "-binary", *key, "-in", copy, "-outform", "PEM", "-out", f"{copy}.p7s")
-
-
-def spoil(check: Check, folder: str, path: str, others: list[str], book: str, pick: Any) -> None:
-    """Each file changed, each exchanged, and the appendix' lines changed with the hall's own key."""
-    copies = f"{folder}/copies"
-    seal, stamp = "differs: the appendix and its seal", "differs: the seal and its stamp"
-    put(copied(copies, path), lambda text: text.replace("hall main", "hall mean"))
-    check.tells(seal, f"{copies}/appendix", book)
-    check.tells(seal, copied(copies, path), book, "other")
-    for end, said in (
-        ("", seal),
-        (".paper", "differs: the appendix and the paper"),
-        (".tsr", stamp),
-    ):
-        copy = copied(copies, path)
-        shutil.copy(f"{pick.choice(others)}{end}", f"{copy}{end}")
-        check.tells(said, copy, book)
-    copy = copied(copies, path)
-    put(f"{copy}.paper", lambda text: re.sub(r"(?m)^(pack .*|batch .*)\d$", r"\g<1>x", text))
-    check.tells("differs: the appendix and the paper", copy, book)
-    for said, change in lines_changed(pick):
-        copy = copied(copies, path)
-        put(copy, lambda text, change=change: ended(change(text)))
-        resealed(folder, copy)
-        check.tells(said, copy, book)
-    put(copied(copies, path), lambda text: text[: len(text) // 2])
-    check.tells("isn't a whole appendix", f"{copies}/appendix", book)
-
-
-def ended(text: str) -> str:
-    """A text with as many lines as its end says."""
-    lines = text.splitlines()[:-1]
-    return "".join(f"{line}\n" for line in (*lines, f"end {len(lines)}"))
-
-
-def lines_changed(pick: Any) -> list[tuple[str, Any]]:
-    """What is told of an appendix whose lines were changed by somebody with the hall's key."""
-
-    def digit(word: str) -> Any:
-        return lambda text: re.sub(
-            rf"(?m)^({word} .*?)(\d)(\D*)$",
-            lambda found: f"{found[1]}{(int(found[2]) + 1) % 10}{found[3]}",
-            text,
-            count=1,
-        )
-
-    def without_row(text: str) -> str:
-        lines = text.splitlines()
-        rows = [at for at, line in enumerate(lines) if line.startswith("row ")]
-        del lines[pick.choice(rows)]
-        return "".join(f"{line}\n" for line in lines)
-
-    return [
-        ("differs: limits, plan", digit("limits")),
-        ("differs: the fingerprint and the book", digit("audit")),
-        ("rows and the book", without_row),
-        ("rows and the book", digit("row")),
-        ("differs: evidence", lambda text: text.replace("200010", "200000")),
-        (
-            "differs: the witness' line",
-            lambda text: re.sub(r"(?m)^(witness \S+ \d+ )(.)", r"\1f\2", text),
-        ),
-        ("differs: the paper and its verdict", lambda text: text.replace("verdict ", "verdict un")),
-    ]
-
-
-def changed_books(check: Check, folder: str, path: str, ask: Asked, pick: Any) -> None:
-    """A book with one changed row, one with its last rows cut off, and another book."""
-    other, row = f"{folder}/changed.book", pick.randint(1, len(ask.rows()))
-    shutil.copy(ask.path, other)
-    with open(other, "r+b") as file:
-        file.seek(SLOT * row + 6)
-        by = file.read(1)[0]
-        file.seek(SLOT * row + 6)
-        file.write(bytes([by ^ 1]))
-        # no snapshot any more, so that the slots are read
-        file.seek(8)
-        file.write(b"\0")
-    closed = int(re.findall(r"(?m)^batch .* row (\d+)$", text_of(path))[0])
-    if row <= closed:
-        check.tells("differs: the fingerprint and the book", path, other)
-    scripts = [line.split("\t")[2] for line in ask.rows()]
-    for name, lines in (("cut", scripts[: closed - 1]), ("exchanged", ["day 1999-12-31"])):
-        made = Asked(ask.program, f"{folder}/{name}.book")
-        made.run(lines)
-        check.tells("differs: the fingerprint and the book", path, made.path)
-        os.remove(made.path)
-
-
-def text_of(path: str) -> str:
-    with open(path, encoding="ascii") as file:
-        return file.read()
 
 
 def make_book(ask: Asked, chance: random.Random, count: int) -> list[str]:

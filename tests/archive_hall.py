@@ -15,7 +15,7 @@ from typing import Any, NamedTuple
 HERE = os.path.dirname(os.path.realpath(__file__))
 sys.path.insert(0, f"{HERE}/../archive")
 
-from clients import Hall, Lane, OPENING, need, plan  # noqa: E402
+from clients import Hall, Lane, OPENING, Wrong, need, plan  # noqa: E402
 from front_clients import Person  # noqa: E402
 from front_room import BOOK, DOORS, FIRST_PORT, Front, run, wait_until  # noqa: E402
 
@@ -29,6 +29,8 @@ DESKS = {101: "anna", 102: "ben"}
 PEOPLE = {"anna": [101], "ben": [102], "carl": [101, 102], "wall": []}
 REASONS = ('it said "10.1" \\ twice\n', "Tür klemmte – Gebinde leer", "first delivery", "{}\t'`$x")
 FAILED = (500, 502, 503, 504)
+# What the program says where somebody else has a book open, and how often it is asked again.
+IN_USE, TRIES = ": it is in use; ", 40
 
 
 def now() -> int:
@@ -187,23 +189,32 @@ class Work:
         batch = f"R{len(self.rounds) + 1}"
         setup = OPENING * (not self.rounds) + f"open {batch} P\n" * bool(lanes)
         before = now()
-        self.hall = Hall(
-            self.program,
-            self.folder,
-            plan(setup, [batch] * lanes),
-            book=self.path,
-            lanes=lanes,
-            doors=DOORS + 1,
-            port=FIRST_PORT,
-            connections=999_999,
-        )
-        wait_until(lambda: f":{ARCHIVE_PORT} " in run("ss", "-ltn"), "the doors listen", 60)
+        for _ in range(TRIES):
+            self.hall = Hall(
+                self.program,
+                self.folder,
+                plan(setup, [batch] * lanes),
+                book=self.path,
+                lanes=lanes,
+                doors=DOORS + 1,
+                port=FIRST_PORT,
+                connections=999_999,
+            )
+            wait_until(lambda: self.listens() or self.hall.ended(), "the doors listen", 60)
+            if self.listens():
+                break
+            # the archive had the book open, for its fingerprint: begun again, as the service does
+            time.sleep(0.2)
+        need(self.listens(), f"no hall begins: {self.hall.said()}")
         seeds = [f"{self.seed} {batch} {lane}" for lane in range(1, lanes + 1)]
         timed = [TimedLane(self.hall, at, one, self.pause) for at, one in enumerate(seeds, 1)]
         for lane in timed:
             lane.start()
         if lanes:
             self.rounds.append(Round(batch, before, timed))
+
+    def listens(self) -> bool:
+        return f":{ARCHIVE_PORT} " in run("ss", "-ltn")
 
     def work(self) -> None:
         for desk in self.desks:
@@ -261,8 +272,15 @@ class Work:
     # ---- what is known of the rows
 
     def text(self, path: str = "") -> str:
-        """The rows of the book at rest, as the program prints them."""
-        return run(self.program, "acts", "--book", path or self.path)
+        """The rows of the book at rest, as the program prints them: all of them, so again where the
+        archive reads it at the same time, for its fingerprint."""
+        words = [self.program, "acts", "--book", path or self.path]
+        for _ in range(TRIES):
+            done = subprocess.run(words, capture_output=True, text=True, check=True)
+            if IN_USE not in done.stderr:
+                return done.stdout
+            time.sleep(0.5)
+        raise Wrong(f"the book stays in use: {done.stderr}")
 
     def replay(self, script: list[str]) -> None:
         """Makes a book of a script's lines; what is refused of it isn't in the book."""

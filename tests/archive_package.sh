@@ -36,7 +36,7 @@ hall=$(tools/package "$room" 2>"$room/log") || { cat "$room/log" >&2; fail "no p
 echo "archive_package: $(basename "$package"), $(wc -c <"$package") bytes; lintian has no word"
 
 # ---- a Debian with what the commands there fetch
-timeout 1200 debootstrap --variant=minbase --include=systemd-sysv,libgcc-s1,curl,python3 bookworm \
+timeout 2400 debootstrap --variant=minbase --include=systemd-sysv,libgcc-s1,curl,python3 bookworm \
     "$debian" >"$room/log" 2>&1 || { tail "$room/log" >&2; fail "no Debian was made"; }
 inside() { chroot "$debian" env -i PATH=/usr/sbin:/usr/bin:/sbin:/bin HOME=/root "$@"; }
 cp /etc/resolv.conf "$debian/etc/resolv.conf"

@@ -85,9 +85,9 @@ def by_database(name: str) -> Command:
 
 
 def appendix(found: Settings, book: str, batch: str) -> int:
-    from hall_archive import sealing
+    from hall_archive import gathering
 
-    return sealing.write(found, book, batch)
+    return gathering.write(found, book, batch)
 
 
 def by_months(name: str) -> Command:

@@ -8,13 +8,15 @@ from hall_archive.spans import EVER, FIRST, Behind, Span, Spans, Time
 
 # How far, in ms, the hour of the front may lie beside that of the row.
 MARGIN = 60_000
-# The words of a question, and the columns that they have to be in.
-COLUMNS = {
-    "batch": "b.name",
-    "product": "a.product",
-    "kind": "a.kind",
-    "person": "p.name",
+# The words of a question, and what has to hold of them. That of most rows comes last: the first one
+# that is given has an index that finds its acts.
+TERMS = {
+    "batch": "a.batch = (SELECT row FROM batch WHERE book = :book AND name = :batch)",
+    "product": "a.product = :product",
+    "kind": "a.kind = :kind",
+    "person": "p.name = :person",
 }
+INDEXES = ("batch", "product", "kind")
 # A page of acts first: the hours of their rows are looked up for them alone.
 ACTS = """
     SELECT f.row, f.kind, f.batch, f.product, f.line, f.person, f.reason,
@@ -29,8 +31,8 @@ ACTS = """
         SELECT min(upto) FROM answer WHERE book = :book AND upto >= f.row)
     ORDER BY f.row"""
 # Where acts come from: all of them, or those of a person.
-ALL = "act a LEFT JOIN person p ON p.book = a.book AND p.row = a.row"
-OF_ONE = "person p JOIN act a ON a.book = p.book AND a.row = p.row"
+ALL = "act a {hint} LEFT JOIN person p ON p.book = a.book AND p.row = a.row"
+OF_ONE = "person p {first} JOIN act a ON a.book = p.book AND a.row = p.row"
 
 
 class Acts(Spans):
@@ -44,7 +46,7 @@ class Acts(Spans):
         time: Time = EVER,
         behind: Behind = FIRST,
     ) -> list[dict[str, Any]]:
-        """At most PAGE acts, in order of books and rows; `given` are words of COLUMNS."""
+        """At most PAGE acts, in order of books and rows; `given` are words of TERMS."""
         found: list[dict[str, Any]] = []
         for span in self.spans(hall, book, widened(time), behind):
             while len(found) < PAGE and span.after < span.upto:
@@ -66,15 +68,22 @@ class Acts(Spans):
         values: dict[str, Any] = {"book": span.book, "after": span.after, "upto": span.upto}
         for word, value in given.items():
             if value:
-                terms.append(f"{COLUMNS[word]} = :{word}")
+                terms.append(TERMS[word])
                 values[word] = value
-        acts = ALL
+        acts = ALL.format(hint=self.hint(values))
         if "person" in values:
-            acts = OF_ONE
+            # SQLite, which counts no rows, would begin with the acts of a book
+            first = "INDEXED BY person_acts CROSS" if self.is_sqlite else ""
+            acts = OF_ONE.format(first=first)
             terms += ["p.book = :book", "p.row > :after", "p.row <= :upto"]
         statement = ACTS.format(acts=acts, terms=" AND ".join(terms))
         found = self.ask(statement, **values, page=PAGE)
         return [{"book": span.name} | dict(row._mapping) for row in found]
+
+    def hint(self, values: dict[str, Any]) -> str:
+        """The index of acts that SQLite takes: by itself it would read all of a book."""
+        words = [word for word in INDEXES if word in values]
+        return f"INDEXED BY act_{words[0]}" if words and self.is_sqlite else ""
 
 
 def widened(time: Time) -> Time:

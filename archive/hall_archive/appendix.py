@@ -10,25 +10,13 @@ from collections.abc import Iterable, Iterator
 from datetime import UTC, datetime
 from typing import Any, NamedTuple
 
-from sqlalchemy import text
-
 from hall_archive import nets, reference, rules
 from hall_archive.evidence import Record
 from hall_archive.keeping import KINDS
 from hall_archive.rows import Entry, grams, line_of
-from hall_archive.store import Store, merged, reaching
 from hall_archive.witness import Line
 
 NO = "-"
-# Rows behind a batch's closing say nothing of it.
-ACTS = """
-    SELECT row FROM act WHERE book = :book AND row <= :closed
-    AND (batch = :batch OR (product = :product AND kind IN ('tare', 'product')))"""
-PERSONS = "SELECT row, name, reason, low, high FROM person WHERE book = :book AND row <= :closed"
-ANSWERS = """
-    SELECT upto, low, high, kind FROM answer WHERE book = :book AND upto >= :first
-    AND upto <= (SELECT min(upto) FROM answer WHERE book = :book AND upto >= :closed)
-    ORDER BY upto"""
 
 
 class Facts(NamedTuple):
@@ -69,34 +57,6 @@ def utc(moment: int | None) -> str:
 
 def quoted(said: str | None) -> str:
     return NO if said is None else json.dumps(said)
-
-
-class Source:
-    """The rows of one closed batch, with their hours, from the tables."""
-
-    def __init__(self, kept: Store, batch: nets.Batch, closed: int) -> None:
-        self.kept, self.batch, self.closed = kept, batch, closed
-
-    def ask(self, statement: str, **values: Any) -> list[Any]:
-        found = {"book": self.kept.book, "closed": self.closed, **values}
-        with reaching(self.kept.reads.connect) as link:
-            return list(link.execute(text(statement), found).all())
-
-    def entries(self) -> Iterator[Entry]:
-        """Its rows and those of its product's tares, in order."""
-        of = {"batch": self.batch.row, "product": self.batch.goods.name}
-        acts = {row for (row,) in self.ask(ACTS, **of)}
-        packs = self.batch.packs
-        first, last = min(packs, default=0), max(packs, default=0)
-        weighings = self.kept.weighings(max(first - 1, 0), last)
-        return merged(
-            (entry for entry in self.kept.acts(0, self.closed) if entry.row in acts),
-            (entry for entry in weighings if entry.row in packs),
-        )
-
-    def hours(self) -> "Hours":
-        answers = self.ask(ANSWERS, first=1)
-        return Hours(answers, {row: more for row, *more in self.ask(PERSONS)})
 
 
 class Hours:

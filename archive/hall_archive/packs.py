@@ -92,7 +92,8 @@ class Packs(Spans):
         rows = self.found(part, most)
         if not rows:
             return []
-        batches = self.batches_of(part.span.book, self.goods(part.span.book))
+        only = sorted({row.batch for row in rows})
+        batches = self.batches_of(part.span.book, self.goods(part.span.book), only)
         return [{"book": part.span.name} | pack_record(batches, row) for row in rows]
 
     def found(self, part: Part, most: int) -> list[Row]:
@@ -122,7 +123,7 @@ class Packs(Spans):
     def by_signals(self, part: Part, most: int) -> list[Row]:
         index = "pack_rejected" if part.wanted.signal in ("", "reject") else "pack_signal"
         # what the first term says lets the indexes of rejects answer; SQLite has to be told
-        hint = f"INDEXED BY {index}" if self.engine.dialect.name == "sqlite" else ""
+        hint = f"INDEXED BY {index}" if self.is_sqlite else ""
         terms = ["p.signal > 0", "p.book = :book", "p.row > :after", "p.row <= :upto"]
         terms += ["m.pile IS NULL"] * (part.wanted.pile == "rejected")
         return self.rows(with_moves(terms + terms_of(part), hint), part.span, most)

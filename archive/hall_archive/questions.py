@@ -1,7 +1,7 @@
 """Questions to the archive: packs, batches, acts and evidence, over all its books. Each is a few
 statements that an index answers. Masses in mg, times in ms of UTC."""
 
-from collections.abc import Iterator
+from collections.abc import Iterable, Iterator
 from typing import Any, NamedTuple
 
 from sqlalchemy import text
@@ -39,6 +39,7 @@ class Books:
 
     def __init__(self, engine: Any) -> None:
         self.engine = engine
+        self.is_sqlite = engine.dialect.name == "sqlite"
 
     def ask(self, statement: str, **values: Any) -> list[Any]:
         with reaching(self.engine.connect) as link:
@@ -68,11 +69,16 @@ class Books:
                     goods[product].put(day, tare)
         return goods
 
-    def batches_of(self, book: int, goods: dict[str, Goods]) -> dict[int, Batch]:
-        """The batches of a book without their packs, by the row of their opening."""
+    def batches_of(
+        self, book: int, goods: dict[str, Goods], only: Iterable[int] = ()
+    ) -> dict[int, Batch]:
+        """The batches of a book without their packs, by the row of their opening: of all, or of
+        some such rows."""
         batches: dict[int, Batch] = {}
+        rows = ", ".join(map(str, only))
+        of = f"row IN ({rows})" if rows else "kind = 'open'"
         for row, line in self.ask(
-            "SELECT row, line FROM act WHERE book = :book AND kind = 'open' ORDER BY row", book=book
+            f"SELECT row, line FROM act WHERE book = :book AND {of} ORDER BY row", book=book
         ):
             act = read_line(line).act
             assert isinstance(act, Open)

@@ -108,6 +108,12 @@ act = Table(
     sqlite_with_rowid=False,
 )
 
+Index("act_kind", act.c.book, act.c.kind, act.c.row)
+for column in (act.c.batch, act.c.product):
+    there = column.isnot(None)
+    columns = (act.c.book, column, act.c.row)
+    Index(f"act_{column.name}", *columns, sqlite_where=there, postgresql_where=there)
+
 batch = Table(
     "batch",
     metadata,

@@ -7,7 +7,6 @@ import os
 import re
 import subprocess
 import tempfile
-import urllib.request
 
 from hall_archive.witness import Differs, Line, digest_of
 
@@ -32,7 +31,10 @@ def openssl(*words: str) -> bytes:
 
 
 def post(url: str, query: bytes) -> bytes:
-    """The authority's answer to a query."""
+    """The authority's answer to a query. What speaks HTTP is loaded here: a follower that begins
+    has no need of it."""
+    import urllib.request
+
     try:
         asked = urllib.request.Request(url, query, ASKED)
         with urllib.request.urlopen(asked, timeout=PATIENCE) as answer:

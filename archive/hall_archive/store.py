@@ -182,11 +182,20 @@ class Store:
             yield Entry(row, SIGNALS[signal], by, 0, 0, Weigh(lane, gross, PRIORS[prior]))
 
     def packs(self, after: int, upto: int) -> Iterator[PackFields]:
-        """The same as they are kept, a chunk at a time."""
-        statement = WEIGHINGS % (self.book, after, upto)
-        with reaching(self.reads.connect) as link:
-            found = link.execution_options(stream_results=True, yield_per=CHUNK)
-            yield from found.exec_driver_sql(statement)
+        """The same as they are kept: chunk by chunk by the driver itself, since each row of a
+        million would cost as much again in sqlalchemy."""
+        most = min(upto, self.cursor().upto)
+        for begin in range(after, most, CHUNK):
+            statement = WEIGHINGS % (self.book, begin, min(begin + CHUNK, most))
+            with reaching(self.reads.connect) as link:
+                cursor = link.connection.cursor()
+                try:
+                    cursor.execute(statement)
+                    yield from cursor.fetchall()
+                except self.reads.dialect.dbapi.Error as fault:
+                    raise Unkept(str(fault).strip()) from fault
+                finally:
+                    cursor.close()
 
     def packed(self, after: int, upto: int) -> Iterator[bytes]:
         """The bytes of rows behind `after` up to `upto`, in order: past the entries of weighings,
