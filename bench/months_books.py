@@ -1,5 +1,5 @@
-"""For bench/months.py: months of books that are made up. One book is taken in and summed; the others are
-copies of it, a day later each, of as many halls as are wanted."""
+"""For bench/months.py: months of books that are made up. One book is taken in and summed; the
+others are copies of it, a day later each, of as many halls as are wanted."""
 
 import os
 import sys

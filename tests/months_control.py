@@ -1,7 +1,7 @@
 #!/usr/bin/python3 -B
-"""A stand-in for systemctl in tests/months.py: which units are enabled and active stands in files of
-a folder; hall@NAME is begun and ended by deploy/start and deploy/stop, hall-archive-follow@NAME is
-the archive's follower. All else is only noted.
+"""A stand-in for systemctl in tests/months.py: which units are enabled and active stands in
+files of a folder; hall@NAME is begun and ended by deploy/start and deploy/stop, hall-archive-
+follow@NAME is the archive's follower. All else is only noted.
 
 usage: months_control.py VERB [--now] [--quiet] UNIT     with ROOM, the folder, in the environment"""
 

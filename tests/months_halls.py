@@ -1,6 +1,6 @@
-"""Several halls and one archive over PostgreSQL: each site has its own SQLite and delivers over a line
-that is cut, with a database that is killed; a second PostgreSQL follows the first by its own replication
-and answers reports. For tests/months.py."""
+"""Several halls and one archive over PostgreSQL: each site has its own SQLite and delivers over
+a line that is cut, with a database that is killed; a second PostgreSQL follows the first by its
+own replication and answers reports. For tests/months.py."""
 
 import os
 import random

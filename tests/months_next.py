@@ -1,6 +1,6 @@
 """Books that follow each other, drawn at random: each is served, worked at, and handed over by
-`hall-next`, which is killed in its midst and run again. For tests/months.py; what systemd does there
-stands in months_control.py."""
+`hall-next`, which is killed in its midst and run again. For tests/months.py; what systemd does
+there stands in months_control.py."""
 
 import glob
 import os

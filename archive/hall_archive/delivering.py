@@ -1,7 +1,7 @@
-"""Delivers what a hall's follower keeps in its own SQLite to the archive of several halls: rows with
-their hours, persons, refused acts, evidence, alarms and sums. Each commit there stands only where it is the
-next one, so that nothing comes twice and nothing is missing, whatever is cut or killed; what can't be
-delivered stays where it is, and is delivered later."""
+"""Delivers what a hall's follower keeps in its own SQLite to the archive of several halls: rows
+with their hours, persons, refused acts, evidence, alarms and sums. Each commit there stands
+only where it is the next one, so that nothing comes twice and nothing is missing, whatever is
+cut or killed; what can't be delivered stays where it is, and is delivered later."""
 
 import threading
 from typing import Any

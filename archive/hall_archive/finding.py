@@ -1,5 +1,5 @@
-"""Search over all books: batches by the beginning of their names, product, verdict, days and persons who
-acted on them; and packs by their number. Each answer has at most MOST records."""
+"""Search over all books: batches by the beginning of their names, product, verdict, days and
+persons who acted on them; and packs by their number. Each answer has at most MOST records."""
 
 from typing import Any
 

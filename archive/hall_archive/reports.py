@@ -1,6 +1,6 @@
-"""Reports over shifts, days, weeks, months, products, lanes, halls and books, of the sums that are kept
-(`summing`). A report is one answer: its lines, their total, products by lanes, days, verdicts and
-refused acts; each line says from which rows of which books it is."""
+"""Reports over shifts, days, weeks, months, products, lanes, halls and books, of the sums that
+are kept (`summing`). A report is one answer: its lines, their total, products by lanes, days,
+verdicts and refused acts; each line says from which rows of which books it is."""
 
 from collections import defaultdict
 from collections.abc import Callable

@@ -1,5 +1,6 @@
-"""Sums by quarter of an hour for reports: what was weighed, how lanes ran, closings, what batches are
-of, and refused acts; how far each book is summed. Moves are found by the row that moved a pack."""
+"""Sums by quarter of an hour for reports: what was weighed, how lanes ran, closings, what
+batches are of, and refused acts; how far each book is summed. Moves are found by the row that
+moved a pack."""
 
 import sqlalchemy as sa
 from alembic import op
