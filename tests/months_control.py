@@ -14,7 +14,7 @@ import time
 HERE = os.path.dirname(os.path.realpath(__file__))
 TOP = os.path.dirname(HERE)
 ROOM = os.environ["ROOM"]
-PATIENCE = 120.0
+PATIENCE = 600.0
 
 
 def settings(name: str) -> dict[str, str]:

@@ -24,7 +24,7 @@ CARRIED = ("day", "product", "tare")
 OPEN, UNFIT = 1, 2
 PORT = 22_471
 DOORS = 2
-PATIENCE = 120
+PATIENCE = 600
 STEPS = 1_500
 
 
@@ -149,7 +149,7 @@ class Halls:
     def next(self, name: str, *words: str) -> tuple[int, str]:
         ran = subprocess.run(
             [sys.executable, "-B", f"{TOP}/deploy/hall-next", *words, name],
-            env=self.known, capture_output=True, text=True, check=False, timeout=300,
+            env=self.known, capture_output=True, text=True, check=False, timeout=900,
         )  # fmt: skip
         return ran.returncode, ran.stdout + ran.stderr
 
