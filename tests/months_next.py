@@ -77,9 +77,10 @@ class Halls:
     def work(self, name: str) -> None:
         """Drawn acts over a book at rest, and a verdict for each batch."""
         self.wait_free(name)
+        # (before the script has it open: a reader may have it first)
+        listing = self.hall("list", "--book", self.path(name)) if self.rows(name) else "day none"
         drawn = Draw(self.chance)
         script = drawn.script = Script(self.program, self.path(name))
-        listing = self.hall("list", "--book", self.path(name)) if self.rows(name) else "day none"
         day = listing.split("\n")[0].split(" ")[1]
         if day == "none":
             drawn.script.ask(f"day {drawn.date(0, 0)}")
