@@ -3,6 +3,7 @@ persons who acted on them; and packs by their number. Each answer has at most MO
 
 from typing import Any
 
+from hall_archive.batch_nets import batch_nets
 from hall_archive.periods import Period
 from hall_archive.questions import Books
 from hall_archive.rows import MAX_ROWS, SIGNALS, day_text
@@ -16,10 +17,6 @@ FOUND = """
     WHERE {terms} ORDER BY o.day DESC, k.hall, k.name DESC, o.batch DESC LIMIT {most}"""
 ACTED = """EXISTS (SELECT 1 FROM person p JOIN act a ON a.book = p.book AND a.row = p.row
     WHERE p.book = o.book AND p.name = :person AND a.batch = o.batch)"""
-NETS = """
-    SELECT book, batch, sum(CASE WHEN pile IN (0, 2) THEN count ELSE 0 END),
-    sum(CASE WHEN pile IN (0, 2) THEN net ELSE 0 END) FROM quarter
-    WHERE {terms} GROUP BY book, batch"""
 
 
 class Finding(Books):
@@ -32,7 +29,7 @@ class Finding(Books):
         book."""
         terms, values = self.terms(halls, text, given, period)
         found = self.ask(FOUND.format(terms=" AND ".join(terms), most=MOST), **values)
-        nets = self.nets({(row.id, row.batch) for row in found})
+        nets = batch_nets(self, ((row.id, row.batch) for row in found))
         return [shown(row._mapping, nets.get((row.id, row.batch), (0, 0))) for row in found]
 
     def terms(
@@ -59,20 +56,6 @@ class Finding(Books):
             terms.append("o.day >= :first AND o.day <= :last")
             values |= period._asdict()
         return terms, values
-
-    def nets(self, batches: set[tuple[int, int]]) -> dict[tuple[int, int], tuple[int, int]]:
-        """How many packs of each count, and their nets."""
-        if not batches:
-            return {}
-        books: dict[int, list[int]] = {}
-        for book, batch in batches:
-            books.setdefault(book, []).append(batch)
-        terms = " OR ".join(
-            f"(book = {book} AND batch IN ({', '.join(map(str, rows))}))"
-            for book, rows in books.items()
-        )
-        found = self.ask(NETS.format(terms=terms))
-        return {(book, batch): (int(count), int(net)) for book, batch, count, net in found}
 
     def packs(self, halls: tuple[str, ...], number: int) -> list[dict[str, Any]]:
         """The packs of a number, one of each book that has one."""

@@ -35,6 +35,7 @@ def upgrade() -> None:
         sa.PrimaryKeyConstraint(*KEY, "signal", "pile", name="quarter_key"),
         sqlite_with_rowid=False,
     )
+    op.create_index("quarter_batch", "quarter", ["book", "batch"])
     op.create_table(
         "pace",
         *columns(sa.BigInteger, "running", "stopped"),

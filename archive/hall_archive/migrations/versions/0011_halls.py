@@ -30,6 +30,7 @@ INDEXES = (
     "CREATE UNIQUE INDEX batch_name_in_book ON batch (book, name)",
     "CREATE INDEX batch_name ON batch (name)",
     "CREATE INDEX answer_clock ON answer (book, clock, high)",
+    "CREATE INDEX quarter_batch ON quarter (book, batch)",
     "CREATE INDEX person_acts ON person (book, name, row)",
 )
 # Tables whose book is no part of their key.
