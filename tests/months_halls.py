@@ -158,6 +158,7 @@ class Central:
 
     def __init__(self, folder: str) -> None:
         self.folder = folder
+        self.books: dict[str, Store] = {}
         self.server = Postgres(folder)
         store.migrate(store.open_engine(self.server.url, True))
         self.replica = f"{folder}/replica"
@@ -174,7 +175,10 @@ class Central:
         self.server.control("pg_ctl", "-D", f"{self.replica}/data", "-w", *words)
 
     def book(self, hall: str) -> Store:
-        return Store(store.open_engine(self.server.url, True), hall, "day")
+        """A book there; by the same links each time, since a server has a hundred."""
+        if hall not in self.books:
+            self.books[hall] = Store(store.open_engine(self.server.url, True), hall, "day")
+        return self.books[hall]
 
     def end(self) -> None:
         self.of_replica("stop", "-m", "immediate")
