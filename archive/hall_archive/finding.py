@@ -15,8 +15,12 @@ FOUND = """
     FROM opening o JOIN book k ON k.id = o.book
     JOIN batch b ON b.book = o.book AND b.row = o.batch
     WHERE {terms} ORDER BY o.day DESC, k.hall, k.name DESC, o.batch DESC LIMIT {most}"""
-ACTED = """EXISTS (SELECT 1 FROM person p JOIN act a ON a.book = p.book AND a.row = p.row
-    WHERE p.book = o.book AND p.name = :person AND a.batch = o.batch)"""
+# of one book at a time, so that the newest are found without all that a person ever did
+ACTED = """k.id = :id AND o.batch IN (SELECT a.batch FROM person p
+    JOIN act a ON a.book = p.book AND a.row = p.row WHERE p.book = :id AND p.name = :person)"""
+NEWEST = """
+    SELECT s.book FROM summed s JOIN book k ON k.id = s.book WHERE {terms}
+    ORDER BY s.last_day DESC, k.hall, k.name DESC"""
 
 
 class Finding(Books):
@@ -28,9 +32,22 @@ class Finding(Books):
         """Batches whose names begin so, the newest first; `given` has product, verdict, person and
         book."""
         terms, values = self.terms(halls, text, given, period)
-        found = self.ask(FOUND.format(terms=" AND ".join(terms), most=MOST), **values)
+        statement = FOUND.format(terms=" AND ".join(terms), most=MOST)
+        if given.get("person"):
+            found = self.acted(statement, terms[0], values)
+        else:
+            found = self.ask(statement, **values)
         nets = batch_nets(self, ((row.id, row.batch) for row in found))
         return [shown(row._mapping, nets.get((row.id, row.batch), (0, 0))) for row in found]
+
+    def acted(self, statement: str, of_halls: str, values: dict[str, Any]) -> list[Any]:
+        """Book by book, the newest first, until there are enough."""
+        halls = {key: value for key, value in values.items() if key.startswith("hall")}
+        found: list[Any] = []
+        for (book,) in self.ask(NEWEST.format(terms=of_halls), **halls):
+            if len(found) < MOST:
+                found += self.ask(statement, id=book, **values)
+        return found[:MOST]
 
     def terms(
         self, halls: tuple[str, ...], text: str, given: dict[str, str], period: Period | None
