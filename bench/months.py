@@ -1,5 +1,5 @@
-"""Run by bench/months.sh: PROGRAM FOLDER ROWS PART. What reports, searches, PDFs, deliveries and the
-next book take. Prints seconds of the clock, and of a processor with that of a server."""
+"""Run by bench/months.sh: PROGRAM FOLDER ROWS PART. What reports, searches, PDFs, deliveries
+and the next book take. Prints seconds of the clock, and of a processor with that of a server."""
 
 import os
 import subprocess

@@ -1,5 +1,5 @@
-"""For bench/months.py: months of books that are made up. One book is taken in and summed; the others are
-copies of it, a day later each, of as many halls as are wanted."""
+"""For bench/months.py: months of books that are made up. One book is taken in and summed; the
+others are copies of it, a day later each, of as many halls as are wanted."""
 
 import os
 import sys
@@ -17,8 +17,8 @@ from hall_archive.rows import PAGE_ROWS  # noqa: E402
 from hall_archive.store import Store  # noqa: E402
 from hall_archive.summing import Summing  # noqa: E402
 
-# Rows a second: a book of a million rows is a day of two shifts.
-RATE = 17
+# A book is a day of two shifts: its rows in so many seconds.
+DAY = 57_600
 QUARTERS = 96
 # What is copied of each book: sums, batches, acts and persons; rows only where they are wanted.
 SUMS = {
@@ -61,7 +61,7 @@ def first_book(engine: Any, lines: list[str]) -> Store:
         pass
     if follower.upto > follower.waiting.after:
         follower.keep()
-    archive_books.RATE = RATE
+    archive_books.RATE = len(lines) // DAY + 1
     archive_books.put_hours(kept, len(lines))
     Summing(engine, kept.reads, kept.book, "day01").look()
     return kept

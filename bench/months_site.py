@@ -1,6 +1,7 @@
-"""A site of bench/months.py: FOLDER URL RATE SECONDS HALL. Follows a made book at a rate into a SQLite of
-its own, and delivers to the archive of several halls. Says `ready`, and at the end the shares of a
-processor, in percent, of following and of delivering, and the rows that were delivered."""
+"""A site of bench/months.py: FOLDER URL RATE SECONDS HALL. Follows a made book at a rate into a
+SQLite of its own, and delivers to the archive of several halls. Says `ready`, and at the end
+the shares of a processor, in percent, of following and of delivering, and the rows that were
+delivered."""
 
 import os
 import sys

@@ -8,7 +8,9 @@ from typing import NamedTuple
 # Acts of the plan's setup are this desk's, as everywhere in a plan.
 SETUP_DESK = 164
 CARRIED = ("day", "product", "tare")
-MONTH = re.compile(r"(\d{4}-\d\d)([b-z]?)")
+MONTH = re.compile(r"(\d{4}-\d\d)((?:z*[b-z])?)")
+# Names that are tried.
+MOST_NAMES = 1_000
 NAME = re.compile(r"[A-Za-z0-9][A-Za-z0-9._-]{0,63}")
 
 
@@ -88,21 +90,28 @@ def open_in(summary: str) -> int:
 
 def next_name(old: str, month: str, taken: Container[str]) -> str:
     """The name of the book behind another: 2026-12 is followed by the month of today, or in the
-    same month by 2026-12b, 2026-12c; any other name by NAME-2, NAME-3."""
+    same month by 2026-12b, 2026-12c, behind 2026-12z by 2026-12zb; any other name by NAME-2,
+    NAME-3."""
     if found := MONTH.fullmatch(old):
-        letters = "abcdefghijklmnopqrstuvwxyz"
-        own, letter = found[1], found[2] or "a"
+        own, part = found[1], found[2] or "a"
         names = [month] if month > own else []
-        names += [f"{own}{one}" for one in letters[letters.index(letter) + 1 :]]
+        for _ in range(MOST_NAMES):
+            part = next_part(part)
+            names.append(own + part)
     else:
         stem, _, number = old.rpartition("-")
         begin = int(number) if stem and number.isdecimal() else 1
         stem = stem if begin > 1 else old
-        names = [f"{stem}-{place}" for place in range(begin + 1, begin + 1000)]
+        names = [f"{stem}-{place}" for place in range(begin + 1, begin + MOST_NAMES)]
     for name in names:
         if name not in taken:
             return name
     raise Unfit(f"no name is left behind {old}: say one")
+
+
+def next_part(part: str) -> str:
+    """The letters behind others, so that names go on in the order of the alphabet."""
+    return f"{part}b" if part[-1] == "z" else part[:-1] + chr(ord(part[-1]) + 1)
 
 
 # ---- its plan and settings

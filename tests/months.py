@@ -95,9 +95,8 @@ def chain(program: str, folder: str, books: int, seed: str, database: str) -> st
         while len(names) < books:
             known.refuse(names[-1], chance)
             names.append(halls.hand_over(names[-1], chance.randint(0, 2), KILLED_WITHIN))
-            halls.control("stop", f"hall@{names[-1]}")
-            halls.work(names[-1])
-            halls.control("start", f"hall@{names[-1]}")
+            with halls.at_rest(names[-1]):
+                halls.work(names[-1])
         halls.end()
         for name in names:
             status, said = known.ask("take", name)

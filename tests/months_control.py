@@ -1,7 +1,7 @@
 #!/usr/bin/python3 -B
-"""A stand-in for systemctl in tests/months.py: which units are enabled and active stands in files of
-a folder; hall@NAME is begun and ended by deploy/start and deploy/stop, hall-archive-follow@NAME is
-the archive's follower. All else is only noted.
+"""A stand-in for systemctl in tests/months.py: which units are enabled and active stands in
+files of a folder; hall@NAME is begun and ended by deploy/start and deploy/stop, hall-archive-
+follow@NAME is the archive's follower. All else is only noted.
 
 usage: months_control.py VERB [--now] [--quiet] UNIT     with ROOM, the folder, in the environment"""
 
@@ -10,11 +10,12 @@ import signal
 import subprocess
 import sys
 import time
+from typing import Any
 
 HERE = os.path.dirname(os.path.realpath(__file__))
 TOP = os.path.dirname(HERE)
 ROOM = os.environ["ROOM"]
-PATIENCE = 120.0
+PATIENCE = 600.0
 
 
 def settings(name: str) -> dict[str, str]:
@@ -26,6 +27,20 @@ def settings(name: str) -> dict[str, str]:
     return dict(os.environ) | folders | {key: value for key, _, value in pairs}
 
 
+def spawn(unit: str, words: list[str], log: str, **more: Any) -> None:
+    """Begins a process that tells its number itself, whole: who began it may be killed at once."""
+    path = f"{ROOM}/units/{unit}.pid"
+    if os.path.exists(path):
+        os.remove(path)
+    told = f"echo $$ >'{path}.new' && mv '{path}.new' '{path}' && exec \"$@\""
+    with open(f"{ROOM}/{log}", "ab") as out:
+        run = subprocess.Popen(
+            ["sh", "-c", told, "sh", *words], stdout=out, stderr=out, start_new_session=True, **more
+        )
+    while not os.path.exists(path) and run.poll() is None:
+        time.sleep(0.01)
+
+
 def begin(name: str) -> None:
     """Begins a hall, and waits until it serves. One that a killed caller began is waited for."""
     known, unit = settings(name), f"hall@{name}"
@@ -33,23 +48,13 @@ def begin(name: str) -> None:
     if not is_active(unit):
         if os.path.exists(shown):
             os.remove(shown)
-        words = ["sh", "-c", f"echo $$ >'{ROOM}/units/{unit}.pid'; exec \"$@\"", "sh"]
-        with open(f"{ROOM}/etc/{name}.toml", "rb") as plan, open(f"{ROOM}/log", "ab") as log:
-            run = subprocess.Popen(
-                [*words, f"{TOP}/deploy/start", name],
-                stdin=plan,
-                stdout=log,
-                stderr=log,
-                env=known,
-                start_new_session=True,
-            )
-        # (the child does so too, for where this is killed here)
-        with open(f"{ROOM}/units/{unit}.pid", "w", encoding="ascii") as file:
-            file.write(str(run.pid))
+        with open(f"{ROOM}/etc/{name}.toml", "rb") as plan:
+            spawn(unit, [f"{TOP}/deploy/start", name], "log", stdin=plan, env=known)
     end = time.monotonic() + PATIENCE
     while not os.path.exists(shown):
         if not is_active(unit) or time.monotonic() > end:
-            sys.exit(f"{unit} doesn't serve")
+            with open(f"{ROOM}/log", encoding="utf-8", errors="replace") as log:
+                sys.exit(f"{unit} doesn't serve: {log.read()[-400:]}")
         time.sleep(0.02)
 
 
@@ -63,14 +68,10 @@ def is_active(unit: str) -> bool:
 
 
 def follow(unit: str, name: str) -> None:
-    if is_active(unit):
-        return
-    with open(f"{ROOM}/follow.log", "ab") as log:
+    if not is_active(unit):
         words = [sys.executable, "-B", f"{TOP}/archive/hall-archive"]
         words += ["--settings", f"{ROOM}/etc/archive.toml", "follow", name]
-        run = subprocess.Popen(words, stdout=log, stderr=log, start_new_session=True)
-    with open(f"{ROOM}/units/{unit}.pid", "w", encoding="ascii") as file:
-        file.write(str(run.pid))
+        spawn(unit, words, "follow.log", stdin=subprocess.DEVNULL)
 
 
 def end(unit: str) -> None:

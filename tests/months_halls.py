@@ -1,6 +1,6 @@
-"""Several halls and one archive over PostgreSQL: each site has its own SQLite and delivers over a line
-that is cut, with a database that is killed; a second PostgreSQL follows the first by its own replication
-and answers reports. For tests/months.py."""
+"""Several halls and one archive over PostgreSQL: each site has its own SQLite and delivers over
+a line that is cut, with a database that is killed; a second PostgreSQL follows the first by its
+own replication and answers reports. For tests/months.py."""
 
 import os
 import random
@@ -9,6 +9,8 @@ import subprocess
 import sys
 import threading
 import time
+from collections import Counter
+from datetime import UTC, datetime, timedelta
 from typing import Any
 
 HERE = os.path.dirname(os.path.realpath(__file__))
@@ -32,8 +34,8 @@ from hall_archive.summing import Summing  # noqa: E402
 
 SITES = 3
 ROWS = 9_000
-# Rows of an hour of a site, and ms of UTC of its first row.
-AN_HOUR, BEGIN = 7_200, 1_740_985_200_000
+# Rows of an hour of a site, and ms of UTC of its first row, at 13:15: the late shift begins in between.
+AN_HOUR, BEGIN = 7_200, 1_741_007_700_000
 SETTINGS = read_reports({"zone": "UTC", "prices": {"rice250": 1.89, "oats250": 0.99}})
 
 
@@ -116,8 +118,9 @@ class Site:
         self.summing = Summing(engine, self.kept.reads, self.kept.book, "day")
         self.records = Records(engine)
         self.delivering = Delivering(self.kept, line.url)
-        self.delivering.delivery.engine.dispose()
         self.delivering.start()
+        # when each row came, by the site's clock
+        self.times: list[datetime] = []
 
     def now(self, boot: str) -> Moment:
         passed = self.source.shown * 3_600_000 // AN_HOUR
@@ -127,10 +130,23 @@ class Site:
         """So many rows come, two a second of the site's clock."""
         upto = min(len(self.source.lines), self.source.shown + rows)
         while self.source.shown < upto:
-            self.source.shown = min(upto, self.source.shown + 8)
+            came = min(upto, self.source.shown + 8)
+            moment = (BEGIN + came * 3_600_000 // AN_HOUR) / 1000
+            self.times += [datetime.fromtimestamp(moment, UTC)] * (came - self.source.shown)
+            self.source.shown = came
             while self.follower.step()[0] == PAGE_ROWS:
                 pass
         self.summing.look()
+
+    def shifts(self) -> Counter[str]:
+        """How many packs each shift weighed, by the clock: early from 6, late from 14, night from 22."""
+        found: Counter[str] = Counter()
+        for line, came in zip(self.source.lines, self.times, strict=False):
+            if "\tweigh " in line:
+                day = (came - timedelta(hours=6)).date()
+                word = ("early", "late", "night")[(came.hour - 6) % 24 // 8]
+                found[f"{day} {word}"] += 1
+        return found
 
     def check_scale(self, place: int) -> None:
         body = '{"errors": [0], "limit": 5, "result": "good", "shown": [5], "weights": [5]}'
@@ -142,6 +158,7 @@ class Central:
 
     def __init__(self, folder: str) -> None:
         self.folder = folder
+        self.books: dict[str, Store] = {}
         self.server = Postgres(folder)
         store.migrate(store.open_engine(self.server.url, True))
         self.replica = f"{folder}/replica"
@@ -158,7 +175,10 @@ class Central:
         self.server.control("pg_ctl", "-D", f"{self.replica}/data", "-w", *words)
 
     def book(self, hall: str) -> Store:
-        return Store(store.open_engine(self.server.url, True), hall, "day")
+        """A book there; by the same links each time, since a server has a hundred."""
+        if hall not in self.books:
+            self.books[hall] = Store(store.open_engine(self.server.url, True), hall, "day")
+        return self.books[hall]
 
     def end(self) -> None:
         self.of_replica("stop", "-m", "immediate")
@@ -237,6 +257,9 @@ def several(folder: str, seed: str) -> str:
             site.delivering.stop.set()
             site.delivering.join(60)
             compare(site, central)
+            told = report(central.server.url, (site.hall,), "shift")["lines"]
+            found = {line["name"]: line["readings"] for line in told}
+            need(found == site.shifts() and len(found) > 1, f"shifts: {found}, {site.shifts()}")
         parts_of(central)
         replicated(central)
         rows = sum(site.source.shown for site in sites)

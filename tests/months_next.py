@@ -1,6 +1,6 @@
 """Books that follow each other, drawn at random: each is served, worked at, and handed over by
-`hall-next`, which is killed in its midst and run again. For tests/months.py; what systemd does there
-stands in months_control.py."""
+`hall-next`, which is killed in its midst and run again. For tests/months.py; what systemd does
+there stands in months_control.py."""
 
 import glob
 import os
@@ -10,6 +10,8 @@ import socket
 import subprocess
 import sys
 import time
+from collections.abc import Iterator
+from contextlib import contextmanager
 from typing import Any
 
 HERE = os.path.dirname(os.path.realpath(__file__))
@@ -22,7 +24,7 @@ CARRIED = ("day", "product", "tare")
 OPEN, UNFIT = 1, 2
 PORT = 22_471
 DOORS = 2
-PATIENCE = 120
+PATIENCE = 600
 STEPS = 1_500
 
 
@@ -75,9 +77,10 @@ class Halls:
     def work(self, name: str) -> None:
         """Drawn acts over a book at rest, and a verdict for each batch."""
         self.wait_free(name)
+        # (before the script has it open: a reader may have it first)
+        listing = self.hall("list", "--book", self.path(name)) if self.rows(name) else "day none"
         drawn = Draw(self.chance)
         script = drawn.script = Script(self.program, self.path(name))
-        listing = self.hall("list", "--book", self.path(name)) if self.rows(name) else "day none"
         day = listing.split("\n")[0].split(" ")[1]
         if day == "none":
             drawn.script.ask(f"day {drawn.date(0, 0)}")
@@ -89,6 +92,18 @@ class Halls:
             drawn.ask()
         need(script.end() == 0, "the script ended early")
         self.close(name)
+
+    @contextmanager
+    def at_rest(self, name: str) -> Iterator[None]:
+        """Neither a hall nor the archive has the book open."""
+        follower = f"hall-archive-follow@{name}"
+        followed = self.control("is-active", follower) == 0
+        for unit in [follower] * followed + [f"hall@{name}"]:
+            self.control("stop", unit)
+        self.wait_free(name)
+        yield
+        for unit in [f"hall@{name}"] + [follower] * followed:
+            self.control("start", unit)
 
     def wait_free(self, name: str) -> None:
         """Until no reader has the book open: the archive's audit, a moment ago."""
@@ -135,7 +150,7 @@ class Halls:
     def next(self, name: str, *words: str) -> tuple[int, str]:
         ran = subprocess.run(
             [sys.executable, "-B", f"{TOP}/deploy/hall-next", *words, name],
-            env=self.known, capture_output=True, text=True, check=False, timeout=300,
+            env=self.known, capture_output=True, text=True, check=False, timeout=900,
         )  # fmt: skip
         return ran.returncode, ran.stdout + ran.stderr
 
@@ -157,10 +172,8 @@ class Halls:
         """Hands a served book over, with kills; the name of the next, which has to be as the old
         one but for batches, desks and rows."""
         # of a running book the newest row isn't read
-        self.control("stop", f"hall@{name}")
-        self.wait_free(name)
-        before = self.hall("list", "--book", self.path(name))
-        self.control("start", f"hall@{name}")
+        with self.at_rest(name):
+            before = self.hall("list", "--book", self.path(name))
         for _ in range(kills):
             self.next_killed(name, self.chance.uniform(0, longest))
         status, said = self.next(name)
@@ -168,10 +181,8 @@ class Halls:
         found = said.split(" is followed by ")[1].split(";")[0].split()[0]
         need(self.control("is-active", f"hall@{found}") == 0, f"{found} isn't served")
         need(answers(PORT), "no door answers")
-        self.control("stop", f"hall@{found}")
-        self.wait_free(found)
-        after = self.hall("list", "--book", self.path(found))
-        self.control("start", f"hall@{found}")
+        with self.at_rest(found):
+            after = self.hall("list", "--book", self.path(found))
         need(carried(before) == carried(after), f"{before}\nbecame\n{after}")
         self.check_old(name, before)
         need(self.control("is-active", f"hall@{name}") != 0, f"{name} is still served")
@@ -216,19 +227,15 @@ def refused(halls: Halls, name: str) -> None:
     rows = halls.rows(name)
     listing = halls.hall("list", "--book", halls.path(name))
     goods = next(line.split()[1] for line in listing.splitlines() if " g tare " in line)
-    halls.control("stop", f"hall@{name}")
-    halls.wait_free(name)
-    halls.hall("run", "--book", halls.path(name), given=f"open LATE {goods}\n")
-    halls.control("start", f"hall@{name}")
+    with halls.at_rest(name):
+        halls.hall("run", "--book", halls.path(name), given=f"open LATE {goods}\n")
     status, said = halls.next(name)
     need(status == OPEN and "LATE" in said, f"an open batch: {status} {said}")
     need(answers(PORT), "the hall doesn't go on")
     need(halls.rows(name) >= rows, "rows are gone")
     # (an empty batch is closed by its end and its closing alone)
-    halls.control("stop", f"hall@{name}")
-    halls.wait_free(name)
-    halls.hall("run", "--book", halls.path(name), given="end LATE\nclose LATE\n")
-    halls.control("start", f"hall@{name}")
+    with halls.at_rest(name):
+        halls.hall("run", "--book", halls.path(name), given="end LATE\nclose LATE\n")
     status, said = halls.next("nothing")
     need(status == UNFIT, f"a book that isn't there: {status} {said}")
 
@@ -252,11 +259,9 @@ def days(halls: Halls, name: str) -> None:
     need(enter(first) == 0 and enter(first) == 0, f"a day isn't entered: {said}")
     need(enter(first + timedelta(3)) == 0, "a missed day isn't made up")
     need(enter(newest) == 1, "a day of before is entered")
-    halls.control("stop", f"hall@{name}")
-    halls.wait_free(name)
-    acts = halls.hall("acts", "--book", halls.path(name), "--after", str(rows)).splitlines()
+    with halls.at_rest(name):
+        acts = halls.hall("acts", "--book", halls.path(name), "--after", str(rows)).splitlines()
+        need(enter(newest + timedelta(9)) == 3, "a hall that is gone")
     told = [line.split("\t")[2] for line in acts]
     wanted = [f"@163 1 day {first}", f"@163 2 day {first + timedelta(3)}"]
     need(told[-2:] == wanted and len(told) <= 3, f"entered was {told}")
-    need(enter(newest + timedelta(9)) == 3, "a hall that is gone")
-    halls.control("start", f"hall@{name}")

@@ -1,5 +1,5 @@
-"""What reports have to say, reckoned from what the program itself prints of a book: `export`, `list`
-and `report`; nothing of the archive is used. For tests/months.py."""
+"""What reports have to say, reckoned from what the program itself prints of a book: `export`,
+`list` and `report`; nothing of the archive is used. For tests/months.py."""
 
 import csv
 import io

@@ -1,7 +1,7 @@
-"""Delivers what a hall's follower keeps in its own SQLite to the archive of several halls: rows with
-their hours, persons, refused acts, evidence, alarms and sums. Each commit there stands only where
-it is the next one, so that nothing comes twice and nothing is missing, whatever is cut or killed;
-what can't be delivered stays where it is, and is delivered later."""
+"""Delivers what a hall's follower keeps in its own SQLite to the archive of several halls: rows
+with their hours, persons, refused acts, evidence, alarms and sums. Each commit there stands
+only where it is the next one, so that nothing comes twice and nothing is missing, whatever is
+cut or killed; what can't be delivered stays where it is, and is delivered later."""
 
 import threading
 from typing import Any
@@ -14,7 +14,7 @@ from hall_archive.keeping import KINDS
 from hall_archive.questions import Books
 from hall_archive.service import Said
 from hall_archive.standing import Move
-from hall_archive.store import Store, reaching
+from hall_archive.store import Store
 from hall_archive.summing import Rows, delta_of, keep, many
 from hall_archive.taking import Behind, BatchRow, PackRow, Taken, Unkept
 
@@ -22,7 +22,9 @@ from hall_archive.taking import Behind, BatchRow, PackRow, Taken, Unkept
 AT_ONCE = 16_384
 MOST = 1_000
 # Seconds between two looks for what is new, and after a fault.
-EVERY, PAUSE = 1.0, 5.0
+EVERY, PAUSE = 2.0, 5.0
+# In each so many looks what is beside the rows is looked at too.
+BESIDE = 5
 ADD_PERSON = """
     INSERT INTO person (row, book, name, reason, low, high) VALUES (%s, %s, %s, %s, %s, %s)
     ON CONFLICT (book, row) DO NOTHING"""
@@ -134,7 +136,7 @@ class Delivery:
         return self.central
 
     def step(self) -> int:
-        """Delivers one commit of rows, and what is new beside them; how many rows are left."""
+        """Delivers one commit of rows, and the sums of them; how many rows are left."""
         there = self.reached()
         upto, after = self.store.cursor().upto, there.cursor().upto
         if upto > after:
@@ -142,10 +144,15 @@ class Delivery:
             there.keep(self.own.taken(after, end))
             after = end
         self.sum(there, after)
-        with there.keeper.commit() as cursor:
-            self.persons(there, cursor, after)
-            self.others(there, cursor)
         return upto - after
+
+    def beside(self) -> None:
+        """Delivers what is new beside the rows."""
+        there = self.reached()
+        upto = there.cursor().upto
+        with there.keeper.commit() as cursor:
+            self.persons(there, cursor, upto)
+            self.others(there, cursor)
 
     def sum(self, there: Store, upto: int) -> None:
         """The sums there are made of the rows here."""
@@ -208,8 +215,8 @@ class Delivery:
         """Delivers all that there is; how many rows there are."""
         while self.step():
             pass
-        with reaching(self.store.reads.connect):
-            return self.reached().cursor().upto
+        self.beside()
+        return self.reached().cursor().upto
 
 
 class Delivering(threading.Thread):
@@ -221,6 +228,7 @@ class Delivering(threading.Thread):
         self.name = own.name
         self.stop = threading.Event()
         self.said = Said()
+        self.turn = 0
 
     def run(self) -> None:
         while not self.stop.is_set():
@@ -232,6 +240,9 @@ class Delivering(threading.Thread):
         try:
             while self.delivery.step() and not self.stop.is_set():
                 pass
+            self.turn += 1
+            if self.turn % BESIDE == 1 or self.stop.is_set():
+                self.delivery.beside()
         except (Unkept, Behind) as fault:
             self.said.fault(f"{self.name}: not delivered, and kept here: {fault}")
             self.delivery.central = None

@@ -1,5 +1,5 @@
-"""The figures of a report, added up of sums of packs: pure. Masses in mg but where it says otherwise,
-times in ms; money is decimal, in whole cents once it is shown."""
+"""The figures of a report, added up of sums of packs: pure. Masses in mg but where it says
+otherwise, times in ms; money is decimal, in whole cents once it is shown."""
 
 from collections import Counter
 from dataclasses import dataclass, field

@@ -1,8 +1,9 @@
-"""Search over all books: batches by the beginning of their names, product, verdict, days and persons who
-acted on them; and packs by their number. Each answer has at most MOST records."""
+"""Search over all books: batches by the beginning of their names, product, verdict, days and
+persons who acted on them; and packs by their number. Each answer has at most MOST records."""
 
 from typing import Any
 
+from hall_archive.batch_nets import batch_nets
 from hall_archive.periods import Period
 from hall_archive.questions import Books
 from hall_archive.rows import MAX_ROWS, SIGNALS, day_text
@@ -14,12 +15,12 @@ FOUND = """
     FROM opening o JOIN book k ON k.id = o.book
     JOIN batch b ON b.book = o.book AND b.row = o.batch
     WHERE {terms} ORDER BY o.day DESC, k.hall, k.name DESC, o.batch DESC LIMIT {most}"""
-ACTED = """EXISTS (SELECT 1 FROM person p JOIN act a ON a.book = p.book AND a.row = p.row
-    WHERE p.book = o.book AND p.name = :person AND a.batch = o.batch)"""
-NETS = """
-    SELECT book, batch, sum(CASE WHEN pile IN (0, 2) THEN count ELSE 0 END),
-    sum(CASE WHEN pile IN (0, 2) THEN net ELSE 0 END) FROM quarter
-    WHERE {terms} GROUP BY book, batch"""
+# of one book at a time, so that the newest are found without all that a person ever did
+ACTED = """k.id = :id AND o.batch IN (SELECT a.batch FROM person p
+    JOIN act a ON a.book = p.book AND a.row = p.row WHERE p.book = :id AND p.name = :person)"""
+NEWEST = """
+    SELECT s.book FROM summed s JOIN book k ON k.id = s.book WHERE {terms}
+    ORDER BY s.last_day DESC, k.hall, k.name DESC"""
 
 
 class Finding(Books):
@@ -31,9 +32,22 @@ class Finding(Books):
         """Batches whose names begin so, the newest first; `given` has product, verdict, person and
         book."""
         terms, values = self.terms(halls, text, given, period)
-        found = self.ask(FOUND.format(terms=" AND ".join(terms), most=MOST), **values)
-        nets = self.nets({(row.id, row.batch) for row in found})
+        statement = FOUND.format(terms=" AND ".join(terms), most=MOST)
+        if given.get("person"):
+            found = self.acted(statement, terms[0], values)
+        else:
+            found = self.ask(statement, **values)
+        nets = batch_nets(self, ((row.id, row.batch) for row in found))
         return [shown(row._mapping, nets.get((row.id, row.batch), (0, 0))) for row in found]
+
+    def acted(self, statement: str, of_halls: str, values: dict[str, Any]) -> list[Any]:
+        """Book by book, the newest first, until there are enough."""
+        halls = {key: value for key, value in values.items() if key.startswith("hall")}
+        found: list[Any] = []
+        for (book,) in self.ask(NEWEST.format(terms=of_halls), **halls):
+            if len(found) < MOST:
+                found += self.ask(statement, id=book, **values)
+        return found[:MOST]
 
     def terms(
         self, halls: tuple[str, ...], text: str, given: dict[str, str], period: Period | None
@@ -59,20 +73,6 @@ class Finding(Books):
             terms.append("o.day >= :first AND o.day <= :last")
             values |= period._asdict()
         return terms, values
-
-    def nets(self, batches: set[tuple[int, int]]) -> dict[tuple[int, int], tuple[int, int]]:
-        """How many packs of each count, and their nets."""
-        if not batches:
-            return {}
-        books: dict[int, list[int]] = {}
-        for book, batch in batches:
-            books.setdefault(book, []).append(batch)
-        terms = " OR ".join(
-            f"(book = {book} AND batch IN ({', '.join(map(str, rows))}))"
-            for book, rows in books.items()
-        )
-        found = self.ask(NETS.format(terms=terms))
-        return {(book, batch): (int(count), int(net)) for book, batch, count, net in found}
 
     def packs(self, halls: tuple[str, ...], number: int) -> list[dict[str, Any]]:
         """The packs of a number, one of each book that has one."""

@@ -1,6 +1,6 @@
-"""Halls of one archive. Over PostgreSQL the number of a book is that of its hall, times BOOKS, and its own
-in the hall: so the tables of rows are partitioned by hall, each of its partitions may stand elsewhere, and
-what is asked of a book reads those of its hall alone."""
+"""Halls of one archive. Over PostgreSQL the number of a book is that of its hall, times BOOKS,
+and its own in the hall: so the tables of rows are partitioned by hall, each of its partitions
+may stand elsewhere, and what is asked of a book reads those of its hall alone."""
 
 from typing import Any
 

@@ -1,5 +1,5 @@
-"""Keeps a month for as long as the law asks: books, papers, sheets, witness and evidence in one folder,
-with a list of digests, which `kept_folder` holds without a database."""
+"""Keeps a month for as long as the law asks: books, papers, sheets, witness and evidence in one
+folder, with a list of digests, which `kept_folder` holds without a database."""
 
 import glob
 import json

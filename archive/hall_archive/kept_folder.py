@@ -1,5 +1,5 @@
-"""A month that was kept, in a folder: whether each file is as it was, and whether what is in them holds
-together. It needs no database, no settings and no program."""
+"""A month that was kept, in a folder: whether each file is as it was, and whether what is in
+them holds together. It needs no database, no settings and no program."""
 
 import glob
 import hashlib

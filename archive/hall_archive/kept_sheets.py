@@ -1,5 +1,5 @@
-"""The sheets of a book's batches on paper: a page of HTML with one for each batch, of what the archive has.
-Pure. Masses in mg."""
+"""The sheets of a book's batches on paper: a page of HTML with one for each batch, of what the
+archive has. Pure. Masses in mg."""
 
 from html import escape
 from typing import Any

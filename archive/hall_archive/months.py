@@ -1,6 +1,6 @@
-"""What goes on beside a follower for reports and for the archive of several halls: the sums of its
-book, the acts that the hall refused, and the delivery of all that is new. A fault of the database is
-told once, and tried again."""
+"""What goes on beside a follower for reports and for the archive of several halls: the sums of
+its book, the acts that the hall refused, and the delivery of all that is new. A fault of the
+database is told once, and tried again."""
 
 import time
 

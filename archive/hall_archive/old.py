@@ -1,5 +1,6 @@
-"""What a hall's office answered of a book that may be at rest long since: sheets, packs, samples, acts,
-its summary and papers, as docs/FORMATS.md has them. So the pages of a batch show it as it was."""
+"""What a hall's office answered of a book that may be at rest long since: sheets, packs,
+samples, acts, its summary and papers, as docs/FORMATS.md has them. So the pages of a batch show
+it as it was."""
 
 from collections import Counter
 from typing import Any

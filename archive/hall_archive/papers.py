@@ -1,5 +1,5 @@
-"""The paper of a closed batch, as `hall paper` writes it (docs/FORMATS.md), and the packs of a draw in
-drawing order: pure. Masses in mg."""
+"""The paper of a closed batch, as `hall paper` writes it (docs/FORMATS.md), and the packs of a
+draw in drawing order: pure. Masses in mg."""
 
 from typing import NamedTuple
 

@@ -1,5 +1,5 @@
-"""Keeps the acts that a hall refused (`refused_lines`): the book doesn't have them. Each line of the
-front is taken once; how far the log was read stands beside the lines."""
+"""Keeps the acts that a hall refused (`refused_lines`): the book doesn't have them. Each line
+of the front is taken once; how far the log was read stands beside the lines."""
 
 from hall_archive.people import Log, Place
 from hall_archive.persons import PUT_PLACE

@@ -1,5 +1,5 @@
-"""Acts that a hall refused, of the lines that the front writes (`people`): who asked what, and when.
-Pure."""
+"""Acts that a hall refused, of the lines that the front writes (`people`): who asked what, and
+when. Pure."""
 
 import json
 from typing import NamedTuple

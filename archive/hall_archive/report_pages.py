@@ -1,5 +1,5 @@
-"""What the pages of reports and of the search ask, by HTTP: reports as JSON, CSV, spreadsheet and PDF,
-batches and packs over all books, and what an office answered of an old one."""
+"""What the pages of reports and of the search ask, by HTTP: reports as JSON, CSV, spreadsheet
+and PDF, batches and packs over all books, and what an office answered of an old one."""
 
 from collections.abc import Callable
 from typing import Any

@@ -1,5 +1,5 @@
-"""What reports need of the settings, the table `[reports]` of /etc/hall/archive.toml; each key may be
-absent.
+"""What reports need of the settings, the table `[reports]` of /etc/hall/archive.toml; each key
+may be absent.
 
     [reports]
     zone = "Europe/Berlin"     # the hall's clock; without it that of the machine

@@ -1,5 +1,5 @@
-"""A report as a spreadsheet, by Debian's openpyxl: the figures, batches with their verdicts, refused
-acts."""
+"""A report as a spreadsheet, by Debian's openpyxl: the figures, batches with their verdicts,
+refused acts."""
 
 import io
 from typing import Any

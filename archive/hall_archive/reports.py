@@ -1,11 +1,12 @@
-"""Reports over shifts, days, weeks, months, products, lanes, halls and books, of the sums that are kept
-(`summing`). A report is one answer: its lines, their total, products by lanes, days, verdicts and
-refused acts; each line says from which rows of which books it is."""
+"""Reports over shifts, days, weeks, months, products, lanes, halls and books, of the sums that
+are kept (`summing`). A report is one answer: its lines, their total, products by lanes, days,
+verdicts and refused acts; each line says from which rows of which books it is."""
 
 from collections import defaultdict
 from collections.abc import Callable
 from typing import Any, NamedTuple
 
+from hall_archive.batch_nets import batch_nets
 from hall_archive.figures import Goods, Line, Packs, Ran
 from hall_archive.periods import BY, BadPeriod, Period, Span, ends, key_of, spans
 from hall_archive.questions import Books
@@ -33,10 +34,6 @@ CLOSED = """
     FROM {source} JOIN opening o ON o.book = q.book AND o.batch = q.batch
     JOIN batch b ON b.book = q.book AND b.row = q.batch
     WHERE {terms} ORDER BY q.book, q.row"""
-BATCHES = """
-    SELECT book, batch, sum(CASE WHEN pile IN (0, 2) THEN count ELSE 0 END),
-    sum(CASE WHEN pile IN (0, 2) THEN net ELSE 0 END) FROM quarter
-    WHERE {terms} GROUP BY book, batch"""
 
 
 class Asked(NamedTuple):
@@ -146,12 +143,8 @@ class Reports(Books):
 
     def fill_batches(self, report: "Report") -> None:
         """How many packs the closed batches have that are listed, and their nets."""
-        books = {one.source.number for one in report.closed}
-        if not books:
-            return
-        terms = f"book IN ({', '.join(map(str, books))})"
-        for book, batch, count, net in self.ask(BATCHES.format(terms=terms)):
-            report.batches[book, batch] = int(count), int(net)
+        wanted = ((one.source.number, one.batch) for one in report.worst())
+        report.batches = batch_nets(self, wanted)
 
     def fill_refused(self, report: "Report") -> None:
         """Refused acts by the hour at which they were answered."""

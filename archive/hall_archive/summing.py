@@ -1,6 +1,6 @@
-"""Keeps the sums of a book for reports (`sums`): behind the rows that are summed those that came since,
-packs that were moved since, and batches whose tare was corrected since, anew. All that is read
-stands for good, since rows are only added; what is written is one short commit.
+"""Keeps the sums of a book for reports (`sums`): behind the rows that are summed those that
+came since, packs that were moved since, and batches whose tare was corrected since, anew. All
+that is read stands for good, since rows are only added; what is written is one short commit.
 
 A delta is made of the rows of one database, and may be kept in another, which has the same rows."""
 

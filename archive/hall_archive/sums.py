@@ -1,6 +1,7 @@
-"""Sums of packs by quarter of an hour, batch, day, lane, signal and pile, and how lanes ran: pure. Masses in
-mg, times in ms of UTC, days since 1970-01-01; a quarter is the number of quarter hours since then,
-0 where the hour of a row isn't known. Codes of signals and piles are places in their lists."""
+"""Sums of packs by quarter of an hour, batch, day, lane, signal and pile, and how lanes ran:
+pure. Masses in mg, times in ms of UTC, days since 1970-01-01; a quarter is the number of
+quarter hours since then, 0 where the hour of a row isn't known. Codes of signals and piles are
+places in their lists."""
 
 from collections.abc import Iterable, Iterator
 from typing import NamedTuple

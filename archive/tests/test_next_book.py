@@ -70,8 +70,10 @@ class Names(unittest.TestCase):
         self.assertEqual(name("2026-12c", "2027-01", {"2027-01"}), "2026-12d")
         self.assertEqual(name("juice", "2027-01", set()), "juice-2")
         self.assertEqual(name("juice-2", "2027-01", {"juice-3"}), "juice-4")
+        self.assertEqual(name("2026-12z", "2026-12", set()), "2026-12zb")
+        self.assertEqual(name("2026-12zz", "2026-12", {"2026-12zzb"}), "2026-12zzc")
         with self.assertRaises(Unfit):
-            name("2026-12z", "2026-12", set())
+            name("x", "2026-12", {f"x-{at}" for at in range(2, 2_000)})
 
 
 class Plans(unittest.TestCase):

@@ -1,5 +1,6 @@
-"""Sums by quarter of an hour for reports: what was weighed, how lanes ran, closings, what batches are
-of, and refused acts; how far each book is summed. Moves are found by the row that moved a pack."""
+"""Sums by quarter of an hour for reports: what was weighed, how lanes ran, closings, what
+batches are of, and refused acts; how far each book is summed. Moves are found by the row that
+moved a pack."""
 
 import sqlalchemy as sa
 from alembic import op
@@ -34,6 +35,7 @@ def upgrade() -> None:
         sa.PrimaryKeyConstraint(*KEY, "signal", "pile", name="quarter_key"),
         sqlite_with_rowid=False,
     )
+    op.create_index("quarter_batch", "quarter", ["book", "batch"])
     op.create_table(
         "pace",
         *columns(sa.BigInteger, "running", "stopped"),

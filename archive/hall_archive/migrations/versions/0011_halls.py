@@ -1,6 +1,6 @@
-"""Numbers of halls. Over PostgreSQL the tables of rows are partitioned by hall: the number of a book is
-that of its hall, times 65 536, and its own in the hall, so that a hall's books are one range. What is
-there already is renumbered. A SQLite of one hall stays as it is."""
+"""Numbers of halls. Over PostgreSQL the tables of rows are partitioned by hall: the number of a
+book is that of its hall, times 65 536, and its own in the hall, so that a hall's books are one
+range. What is there already is renumbered. A SQLite of one hall stays as it is."""
 
 import sqlalchemy as sa
 from alembic import op
@@ -30,6 +30,7 @@ INDEXES = (
     "CREATE UNIQUE INDEX batch_name_in_book ON batch (book, name)",
     "CREATE INDEX batch_name ON batch (name)",
     "CREATE INDEX answer_clock ON answer (book, clock, high)",
+    "CREATE INDEX quarter_batch ON quarter (book, batch)",
     "CREATE INDEX person_acts ON person (book, name, row)",
 )
 # Tables whose book is no part of their key.
