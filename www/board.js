@@ -3,7 +3,7 @@
 // anew, so that nothing moves.
 
 import { CODE, addWords, say, word } from "./words.js";
-import { AlarmBar, alarmsOf, isNear, isSoonFull } from "./alarms.js";
+import { AlarmBar, alarmsOf, isNear, isSoonFull, loudFirst } from "./alarms.js";
 import { Hall } from "./lanes.js";
 import { MOST_PACKS, MOST_ROWS, limitsOf } from "./rules.js";
 import { count, duration, grams, quantity } from "./numbers.js";
@@ -380,7 +380,7 @@ async function drawNew() {
   putFoot(book, rows);
   const lanes = [...hall.lanes.values()].map(laneState);
   const alarms = alarmsOf({ book, batches: views, lanes });
-  place.bar.draw([...alarms, ...evidenceAlarms()], isSounding());
+  place.bar.draw(loudFirst([...alarms, ...evidenceAlarms()]), isSounding());
 }
 
 // A lane of the plan that stands without ever having weighed is shown too.

@@ -39,6 +39,9 @@ const post = (kind, subject, body) => ask(`evidence/${kind}/${encodeURIComponent
 
 const resultTag = ({ result }) => tag(...SIGNS[result], say(`result.${result}`));
 
+// Calls for help are kept as evidence is; they stand among what is to be seen to.
+const isProof = ({ kind }) => kind !== "call";
+
 function newestTable(records) {
   if (records.length === 0) return make("p", {}, say("noEvidence"));
   const heads = ["kind", "subject", "when", "who", "result"].map((name) => say(`head.${name}`));
@@ -120,7 +123,7 @@ export async function build(section) {
   if (!first) return void soonPage("evidence").build(section);
   const [newest, due] = [make("div", { className: "scroll" }), make("div", { role: "status" })];
   const show = async () => {
-    newest.replaceChildren(newestTable((await ask("newest")).said));
+    newest.replaceChildren(newestTable((await ask("newest")).said.filter(isProof)));
     const { evidence, books } = (await ask("alarms")).said;
     const said = [...evidence.map(dueWords), ...books.map(({ book, what }) => `${book}: ${what}`)];
     due.replaceChildren(...(said.length ? [notice("alarm", "warn", say("overdue"),
