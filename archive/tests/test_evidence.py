@@ -131,6 +131,6 @@ class Chain(unittest.TestCase):
 
     def test_a_call_is_an_alarm_until_somebody_came(self) -> None:
         call = self.records()[0]._replace(kind="call", subject="3")
-        self.assertEqual(alarms([call], 40_000 * DAY, {}), [])
+        self.assertEqual(alarms([call], 30_000 * DAY, {}), [])
         called = call._replace(body='{"result": "bad"}')
         self.assertEqual(alarms([called], DAY, {})[0][:3], ("call", "3", "bad"))
