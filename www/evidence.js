@@ -5,10 +5,11 @@
 import { addWords, say } from "./words.js";
 import { FIELDS, KINDS, readEntry } from "./entered.js";
 import { deskChoice } from "./mydesk.js";
-import { dueWords, spellDay } from "./evidenceshown.js";
+import { dueWords } from "./evidenceshown.js";
 import { grams } from "./evidencewords.js";
 import { isReady, makeSaid, sendAct, tell } from "./acts.js";
 import { loadStyles, make, notice, tag } from "./page.js";
+import { spellDay } from "./evidencekinds.js";
 import { table } from "./parts.js";
 import { Missing, reach } from "./office.js";
 import { soonPage } from "./soon.js";

@@ -4,7 +4,7 @@
 import { CODE, addWords, say } from "./words.js";
 import { actsOf } from "./archived.js";
 import { make } from "./page.js";
-import { spellDay } from "./evidenceshown.js";
+import { spellDay } from "./evidencekinds.js";
 
 addWords((await import(`./sheetproofs_${CODE}.js`)).default);
 
