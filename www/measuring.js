@@ -227,7 +227,8 @@ class Measuring {
   putFigures() {
     const { task } = this;
     this.figures.replaceChildren(...figuresOf(task).map(([name, value, more]) => make("div", {},
-      make("dt", {}, name), make("dd", {}, value, make("small", {}, more)))));
+      make("dt", {}, name), make("dd", {}, value),
+      more ? make("dd", { className: "m-more" }, more) : null)));
     const shown = task.numbers.filter((number) => contentsOf(task, number) !== null).slice(-LAST);
     this.last.replaceChildren(...shown.reverse().map((number) => {
       const contents = contentsOf(task, number);
