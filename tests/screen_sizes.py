@@ -51,11 +51,11 @@ def check_stays(browser):
 
 def loaded(browser):
     """What the page has loaded so far: bytes, bytes as the front sent them, and what it asked
-    elsewhere. Answers of the office and files of the book are no part of it."""
+    elsewhere. Answers of the office and of the archive, and files of the book, are no part of it."""
     return browser.run("""
         const all = performance.getEntriesByType("resource")
             .concat(performance.getEntriesByType("navigation"));
-        const asked = /\\/hall\\/|\\/papers\\/|(list|lanes)\\.txt|settings\\.json/;
+        const asked = /\\/hall\\/|\\/archive\\/|\\/papers\\/|(list|lanes)\\.txt|settings\\.json/;
         const own = all.filter((one) => !asked.test(one.name));
         const sum = (key) => own.reduce((total, one) => total + one[key], 0);
         return [sum("decodedBodySize"), sum("encodedBodySize"),
