@@ -156,6 +156,7 @@ def run_evidence(program, folder, pictures):
     place = Pages(program, folder)
     try:
         entered(place)
+        place.anna.run("scrollTo(0, 0)")
         place.anna.picture(f"{pictures}/evidence_entered.png")
         on_a_sheet(place)
         place.anna.picture(f"{pictures}/evidence_sheet.png")

@@ -115,11 +115,11 @@ function choice(forms) {
   select.addEventListener("change", show);
   show();
   return make("p", { className: "field" },
-    make("label", { for: "e-kind" }, say("enterEvidence")), select);
+    make("label", { for: "e-kind" }, say("head.kind")), select);
 }
 
 export async function build(section) {
-  await loadStyles("parts.css", "tables.css", "forms.css");
+  await loadStyles("parts.css", "tables.css", "forms.css", "evidence.css");
   const first = await ask("newest").catch(() => null);
   if (!first) return void soonPage("evidence").build(section);
   const [newest, due] = [make("div", { className: "scroll" }), make("div", { role: "status" })];
@@ -131,9 +131,11 @@ export async function build(section) {
       make("ul", {}, said.map((text) => make("li", {}, text))))] : []));
   };
   const forms = Object.fromEntries(KINDS.map((kind) => [kind, formOf(kind, show)]));
-  section.append(make("h1", {}, say("evidence")), due, make("section", { className: "panel" },
-    make("h2", {}, say("newest")), newest), make("section", { className: "panel" },
-    deskChoice("e-desk"), choice(forms), Object.values(forms)));
+  const panel = (name, ...more) => make("section", { className: "panel" },
+    make("h2", {}, say(name)), more);
+  section.append(make("h1", {}, say("evidence")), due, make("div", { className: "evidence" },
+    panel("enterEvidence", deskChoice("e-desk"), choice(forms), Object.values(forms)),
+    panel("newest", newest)));
   await show();
 }
 
