@@ -12,6 +12,7 @@ from screen_day import run_day
 from screen_evidence import run_evidence
 from screen_load import run_load
 from screen_pages import run_boards, run_pages
+from screen_pictures import run_pictures
 from screen_signs import run_signs
 from screen_sizes import run_sizes
 
@@ -25,6 +26,7 @@ PARTS = {
     "chart": run_chart,
     "changes": run_changes,
     "evidence": run_evidence,
+    "pictures": run_pictures,
 }
 
 

@@ -15,6 +15,8 @@
 #   changes a lane changes its batch by the page, the desk and a typed scan, and is refused one
 #   evidence  evidence is entered, stands on a sheet, and is an alarm when it is overdue; it needs
 #           what tests/archive.sh needs
+#   pictures  those of README and OPERATING, small; only where it is asked for, as
+#           tests/screen.sh docs pictures; it needs imagemagick
 #
 # usage: tests/screen.sh [PICTURES [PART..]]    HALL names the program; screenshots are left in
 #                                               PICTURES; without a PART all are done

@@ -57,6 +57,11 @@ class Day:
             lane.start()
 
 
+# Acts by curl at once, and how many rows a book may have room for without its disk.
+AT_ONCE = 50
+MOST_AHEAD = 2_000
+
+
 class Curl:
     """What acts for a desk without a page, by curl through the front, and asks each act twice."""
 
@@ -77,6 +82,24 @@ class Curl:
         need(said == again and "row" in said, f"curl is told {said} and then {again}")
         self.told[said["row"]] = (self.request, members)
         self.request += 1
+
+    def act_until_full(self, many):
+        """Products, so many at once, until one isn't answered: the disk is full. Gives back how
+        many are rows."""
+        acts = [{"act": "product", "name": f"bran{self.request + at}", "nominal": 500_000}
+                for at in range(many)]
+        words = []
+        for at, members in enumerate(acts):
+            body = json.dumps({"desk": self.DESK, "request": self.request + at} | members)
+            words += [*self.words[1:], "-w", "\\n", "--data", body,
+                      f"https://{NAME}/hall/acts", "--next"]
+        said = run("curl", *words[:-1]).splitlines()
+        for line, members in zip(said, acts):
+            if '"row"' not in line:
+                break
+            self.told[json.loads(line)["row"]] = (self.request, members)
+            self.request += 1
+        return sum(members in acts for _, members in self.told.values())
 
 
 def check_refusals(browser, language):
@@ -232,6 +255,12 @@ def full_disk(day, anna):
     before = len(day.rows())
     filler = f"{day.disk}/filler"
     fill(filler)
+    # the book has room for some hundred rows ahead
+    taken, more = 0, AT_ONCE
+    while more == AT_ONCE:
+        more = day.curl.act_until_full(AT_ONCE)
+        taken += more
+        need(taken < MOST_AHEAD, "the disk isn't full")
     tried = 0
     form = anna.act("product", name="rye500", nominal="500")
     while is_done(anna, form):
@@ -243,7 +272,7 @@ def full_disk(day, anna):
     anna.picture(f"{day.pictures}/disk_failed.png")
     os.remove(filler)
     anna.told(form, "Done")
-    need(len(day.rows()) == before + tried + 1, "an act on a full disk acted once")
+    need(len(day.rows()) == before + taken + tried + 1, "an act on a full disk acted once")
     print("screen: a full disk is told, and its act was done with room again", flush=True)
 
 

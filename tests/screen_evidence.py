@@ -98,6 +98,27 @@ def on_a_sheet(place):
     place.anna.open("sheet/R1")
     said = place.anna.wait_text(".sh-evidence", "Tare of a product, P")
     need("Check of a scale, 1" in said and "other" not in said, f"the sheet: {said}")
+    need("Who and when" in said and "opened" in said, f"the sheet: {said}")
+
+
+def call_for_help(place):
+    """A lane calls; the board shows it, until somebody has come."""
+    place.anna.open("lane/1")
+    button = place.anna.find(".st-help")
+    need("Call for help" in button.text, f"the button says {button.text}")
+    button.click()
+    place.anna.wait_text(".st-told", "Help is called", 60)
+    place.anna.open("board")
+    place.anna.wait_text("ol.alarms .alarm", "Lane 1 calls for help", 60)
+    place.anna.open("lane/1")
+    place.anna.wait_text(".st-help", "Help has come", 60)
+    place.anna.find(".st-help").click()
+    place.anna.wait_text(".st-help", "Call for help", 60)
+    place.anna.open("board")
+    wait(lambda: "calls for help" not in place.anna.text("ol.alarms"), "the call is over", 60)
+    calls = [one for one in place.records.all("main") if one.kind == "call"]
+    need([one.result for one in calls] == ["bad", "good"] and calls[0].person == "anna",
+         f"kept are {calls}")
 
 
 def overdue(place):
@@ -135,9 +156,11 @@ def run_evidence(program, folder, pictures):
     place = Pages(program, folder)
     try:
         entered(place)
+        place.anna.run("scrollTo(0, 0)")
         place.anna.picture(f"{pictures}/evidence_entered.png")
         on_a_sheet(place)
         place.anna.picture(f"{pictures}/evidence_sheet.png")
+        call_for_help(place)
         took = overdue(place)
         place.anna.picture(f"{pictures}/evidence_board.png")
         without(place)

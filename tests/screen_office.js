@@ -40,14 +40,19 @@ window.hallClock = (() => {
   // The signal of a pack, as its act has it.
   const signalOf = (number) => (netOf(number) < 232_000 ? "reject inadequate" : "pass");
 
-  // The acts behind a row, a page of them: where a lane begins another batch its first pack stands
-  // for the start too, since all rows here are packs. What the lanes weigh is asked at first.
+  // A row as its act: a pack, or where a lane begins another batch its start in that pack's place.
+  function actText(number) {
+    const lane = number <= MOST ? 1 : laneOf(number);
+    const isStart = number > MOST && placeOf(number) % MOST === 0;
+    const [told, act] = isStart ? ["done", `start ${lane} ${batchAt(lane, placeOf(number))}`]
+      : [signalOf(number), `weigh ${lane} ${spell(netOf(number) + 10_000)} opened`];
+    return `${number} ${told}\t2025-03-03\t${act}\n`;
+  }
+
+  // The acts behind a row, a page of them.
   function actsText(after) {
-    const numbers = Array.from({ length: Math.min(128, Math.max(0, rows() - after)) },
-      (_, at) => after + at + 1);
-    return numbers.map((number) => `${number} ${signalOf(number)}\t2025-03-03\t`
-      + `weigh ${number <= MOST ? 1 : laneOf(number)} ${spell(netOf(number) + 10_000)} opened\n`)
-      .join("");
+    const many = Math.min(128, Math.max(0, rows() - after));
+    return Array.from({ length: many }, (_, at) => actText(after + at + 1)).join("");
   }
 
   // What the packs of a batch come to: one in 997 is rejected, one in 83 is light.

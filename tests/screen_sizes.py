@@ -51,11 +51,11 @@ def check_stays(browser):
 
 def loaded(browser):
     """What the page has loaded so far: bytes, bytes as the front sent them, and what it asked
-    elsewhere. Answers of the office and files of the book are no part of it."""
+    elsewhere. Answers of the office and of the archive, and files of the book, are no part of it."""
     return browser.run("""
         const all = performance.getEntriesByType("resource")
             .concat(performance.getEntriesByType("navigation"));
-        const asked = /\\/hall\\/|\\/papers\\/|(list|lanes)\\.txt|settings\\.json/;
+        const asked = /\\/hall\\/|\\/archive\\/|\\/papers\\/|(list|lanes)\\.txt|settings\\.json/;
         const own = all.filter((one) => !asked.test(one.name));
         const sum = (key) => own.reduce((total, one) => total + one[key], 0);
         return [sum("decodedBodySize"), sum("encodedBodySize"),
@@ -103,6 +103,10 @@ def check_size(browser):
               flush=True)
 
 
+# A part that has the key's focus, by its id where it has one: a slider's words change as packs come.
+NAMED = "const named = (one) => one.id || one.outerHTML.slice(0, 90);"
+
+
 def check_keyboard(browser):
     """The key Tab comes by everything that can be used, on each page."""
     for page, selector in (("board", "#board .strip"), ("desk/RICE-1130-C", "#desk .step.draw"),
@@ -113,11 +117,11 @@ def check_keyboard(browser):
         visited = set()
         for _ in range(60):
             ActionChains(browser.driver).send_keys(Keys.TAB).perform()
-            visited.add(browser.run("return document.activeElement.outerHTML.slice(0, 90)"))
-        left = browser.run("""return [...document.querySelectorAll(
+            visited.add(browser.run(NAMED + "return named(document.activeElement)"))
+        left = browser.run(NAMED + """return [...document.querySelectorAll(
             "a, input, select, button, summary")].filter((one) => one.checkVisibility()
             && !one.disabled && !one.classList.contains("skip")
-            && !(one.type === "radio" && !one.checked)).map((one) => one.outerHTML.slice(0, 90))""")
+            && !(one.type === "radio" && !one.checked)).map(named)""")
         need(set(left) <= visited, f"on {page} Tab doesn't come by {set(left) - visited}")
     print("screen: the key Tab comes by everything that can be used", flush=True)
 

@@ -93,6 +93,11 @@ function bookAlarm({ left, isFull, rate }) {
 export function alarmsOf({ book, batches, lanes }) {
   const all = [...bookAlarm(book), ...batches.flatMap(batchAlarm), ...batches.flatMap(countryAlarm),
     ...lanes.flatMap(laneAlarm)];
+  return loudFirst(all);
+}
+
+// Those to act on before those to look at; the order of each stays.
+export function loudFirst(all) {
   const isLoud = ([kind]) => kind === "alarm";
   return [...all.filter(isLoud), ...all.filter((alarm) => !isLoud(alarm))];
 }

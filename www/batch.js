@@ -2,14 +2,16 @@
 // grams, percent and money, and what was rejected and why.
 
 import { MOST_PACKS, limitsOf } from "./rules.js";
-import { RULES, causesOf, groupSize, isCounted, meanAndS } from "./control.js";
+import { RULES, groupSize } from "./subgroups.js";
 import { CODE, addWords, say, word } from "./words.js";
 import { count, fixed, grams, mass, percent, quantity } from "./numbers.js";
-import { drawChart, groupsOf } from "./chart.js";
+import { causesOf, isCounted, meanAndS } from "./control.js";
+import { groupsOf, subgroupPanels } from "./groupchart.js";
 import { icon, loadStyles, make, meter, notice, put, shape, whenSized } from "./page.js";
 import { facts, signalTag, table, verdictTag } from "./parts.js";
 import { priceOf, settings } from "./settings.js";
 import { BatchPage } from "./loader.js";
+import { drawChart } from "./chart.js";
 import { forecastOf } from "./forecast.js";
 import { forecastWords } from "./forecastwords.js";
 
@@ -121,7 +123,8 @@ class Cursor {
   draw(wide) {
     const began = performance.now();
     this.wide = wide;
-    this.chart = drawChart({ ...this, wide });
+    const below = (...at) => subgroupPanels(this.groups, ...at);
+    this.chart = drawChart({ ...this, wide, below });
     this.line = shape("path", { class: "cursor" });
     this.ring = shape("circle", { class: "m-cursor", r: 6 });
     this.chart.picture.append(this.line, this.ring);

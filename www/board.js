@@ -3,7 +3,7 @@
 // anew, so that nothing moves.
 
 import { CODE, addWords, say, word } from "./words.js";
-import { AlarmBar, alarmsOf, isNear, isSoonFull } from "./alarms.js";
+import { AlarmBar, alarmsOf, isNear, isSoonFull, loudFirst } from "./alarms.js";
 import { Hall } from "./lanes.js";
 import { MOST_PACKS, MOST_ROWS, limitsOf } from "./rules.js";
 import { count, duration, grams, quantity } from "./numbers.js";
@@ -24,8 +24,13 @@ addWords((await import(`./board_${CODE}.js`)).default);
 // How often the files beside the pages are asked for anew, in milliseconds.
 const FILES_EVERY = 5_000;
 
-// How often what is new is asked, in milliseconds: a change of a lane is seen within a second.
-export const every = 600;
+// How often what is new is asked, in milliseconds: a change of a lane is seen within a second. Where
+// so many rows come a second that nobody reads them it is more seldom, since each look costs as much.
+const OFTEN = 600;
+const SELDOM = 3_000;
+const MANY = 100;
+
+export let every = OFTEN;
 
 const hall = new Hall();
 const files = { at: 0, plan: { lanes: [], left: null, isFull: false }, left: null, rows: 0 };
@@ -365,8 +370,20 @@ export function refresh() {
   return underWay;
 }
 
+const seen = { rows: 0, at: 0 };
+
+// How long until the next look, by the rows that came since the last one.
+function paceOf(rows) {
+  const [came, gone] = [rows - seen.rows, (Date.now() - seen.at) / 1000];
+  const isFast = seen.at > 0 && came / gone > MANY;
+  Object.assign(seen, { rows, at: Date.now() });
+  hall.isFast = isFast;
+  return isFast ? SELDOM : OFTEN;
+}
+
 async function drawNew() {
   const { rows } = await hall.refresh();
+  every = paceOf(rows);
   await askFiles(rows);
   await askPlanned();
   const shown = batchesShown();
@@ -381,7 +398,7 @@ async function drawNew() {
   const lanes = [...hall.lanes.values()].map(laneState);
   const rate = [...hall.lanes.values()].reduce((all, lane) => all + (hall.rateOf(lane) ?? 0), 0);
   const alarms = alarmsOf({ book: { ...book, rate }, batches: views, lanes });
-  place.bar.draw([...alarms, ...evidenceAlarms()], isSounding());
+  place.bar.draw(loudFirst([...alarms, ...evidenceAlarms()]), isSounding());
 }
 
 // A lane of the plan that stands without ever having weighed is shown too.

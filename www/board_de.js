@@ -23,7 +23,7 @@ export default {
   soundOn: "Ton ist an",
   soundOff: "Ton ist aus",
   // alarms
-  noAlarm: "Kein Alarm. Gerade braucht nichts jemanden.",
+  noAlarm: "Kein Alarm. Gerade muss niemand eingreifen.",
   more: "+ {count} weitere",
   bookFull: "Das Buch ist voll: keine Packung wird gewogen. Das nächste Buch beginnen",
   rowsHours: "Noch {left} Zeilen im Buch, bei diesem Tempo für {hours} h: das nächste vorbereiten",

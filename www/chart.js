@@ -1,25 +1,21 @@
-// Draws the control chart of a batch: nets one by one with their mean of 30, x-bar and s of
-// subgroups with their limits, and the histogram, by one scale across. Shapes and words tell what
-// colours tell; packs of a kind are one path, so that ten thousand of them are drawn at once.
+// Draws the chart of a batch: nets one by one with their mean of 30, and the histogram, by one scale
+// across. Shapes and words tell what colours tell; packs of a kind are one path, so that ten
+// thousand of them are drawn at once.
 
 import { addWords, say } from "./words.js";
 import { count, grams } from "./numbers.js";
-import { histogram, isCounted, markRules, meanAndS, runningMeans, subgroups, tareChanges } from
-  "./control.js";
+import { histogram, isCounted, meanAndS, runningMeans, tareChanges } from "./control.js";
 import { limitsOf } from "./rules.js";
 import { shape } from "./page.js";
 
 addWords({
   individuals: ["Net of each pack, g", "Netto jeder Packung, g"],
   byNet: ["Packs by net", "Nach Netto"],
-  xbar: ["x̄ of {size} packs, g", "x̄ von {size} Packungen, g"],
-  spread: ["s of {size} packs, g", "s von {size} Packungen, g"],
   tareFrom: ["tare {tare} g", "Tara {tare} g"],
   chartTitle: ["Nets of batch {batch} in order of weighing",
     "Nettos der Charge {batch}, wie gewogen"],
   chartSays: ["{count} packs that count, mean {mean} g, s {s} g, {rejected} rejected",
     "{count} Packungen, die zählen, Mittel {mean} g, s {s} g, {rejected} ausgeschleust"],
-  centre: ["mean", "Mittel"],
 });
 
 const round = (number) => Math.round(number * 10) / 10;
@@ -33,17 +29,17 @@ const SHAPES = {
   out: (x, y) => `M${x} ${y - 6}l6 10h-12z`,
 };
 
-const mark = (kind, points) => (points.length === 0 ? [] : [shape("path", { class: `m-${kind}`,
+export const mark = (kind, points) => (points.length === 0 ? [] : [shape("path", { class: `m-${kind}`,
   d: points.map(([x, y]) => SHAPES[kind](x, y)).join("") })]);
-const text = (x, y, words, kind = "", anchor = "start") =>
+export const text = (x, y, words, kind = "", anchor = "start") =>
   shape("text", { x, y, class: kind, "text-anchor": anchor }, words);
-const dots = (points, width, opacity = 1) => shape("path", { class: "m-pass", "stroke-width": width,
+export const dots = (points, width, opacity = 1) => shape("path", { class: "m-pass", "stroke-width": width,
   "stroke-opacity": opacity, d: points.map(([x, y]) => `M${x} ${y}h0`).join("") });
-const across = (kind, left, right, y) =>
+export const across = (kind, left, right, y) =>
   shape("path", { class: kind, d: `M${left} ${y}H${right}` });
 
 // A part of the figure: its scale up, and its frame.
-function panel(box, low, high) {
+export function panel(box, low, high) {
   const { left, right, top, bottom } = box;
   const held = (value) => Math.max(low, Math.min(high, value));
   return {
@@ -151,48 +147,10 @@ function packNumbers(packs, [from, to], { x, bottom }, wide) {
       text(x(number - 1), bottom + 18, count(number), "", "middle")]);
 }
 
-// One panel of subgroups: its points, its line and its limits.
-function groupPanel(box, shown, pick, range, lines, out, title, frame) {
-  const { up, frame: axis } = panel(box, ...range);
-  const points = shown.map((group) => [frame.x(group.place), up(pick(group))]);
-  const limit = ([kind, name, value], at, all) => {
-    // where two limits lie close together the figure of the mean gives way
-    const isClose = kind === "l-centre" && Math.abs(up(value) - up(all[0][2])) < 13;
-    return [across(kind, box.left, box.right, up(value)), isClose ? [] : [
-      text(box.left - 8, up(value) + 4, grams(value, 1), "", "end"),
-      text(box.right + 6, up(value) + 4, name)]];
-  };
-  return [axis, text(box.left, box.top - 8, title, "strong"), lines.map(limit),
-    points.length > 1
-      ? shape("path", { class: "l-net", d: `M${points.map((point) => point.join(" ")).join("L")}` })
-      : [],
-    dots(points, 4.5), mark("out", shown.map((group, at) => [group, points[at]])
-      .filter(([group]) => out(group)).map(([, point]) => point))];
-}
-
-function subgroupPanels({ groups, bounds, size }, [from, to], frame) {
-  const { left, right, nets, high } = frame;
-  const shown = groups.filter(({ place }) => place >= from && place < to);
-  const xs = { left, right, top: nets.bottom + 34, bottom: nets.bottom + 34 + high * .17 };
-  const ss = { left, right, top: xs.bottom + 30, bottom: high - 46 };
-  const reach = Math.max(1.6 * 3 * bounds.sigma,
-    ...shown.map(({ mean }) => 1.05 * Math.abs(mean - bounds.centre)));
-  const means = [["l-limit", "UCL", bounds.high], ["l-centre", say("centre"), bounds.centre],
-    ["l-limit", "LCL", bounds.low]];
-  const spreads = [["l-limit", "UCL", bounds.sHigh], ["l-centre", say("centre"), bounds.spread],
-    ["l-limit", "LCL", bounds.sLow]];
-  const widest = Math.max(bounds.sHigh * 1.18, ...shown.map(({ s }) => s * 1.05));
-  return [
-    groupPanel(xs, shown, ({ mean }) => mean, [bounds.centre - reach, bounds.centre + reach], means,
-      ({ rule }) => rule, say("xbar", { size }), frame),
-    groupPanel(ss, shown, ({ s }) => s, [0, widest], spreads, ({ isWide }) => isWide,
-      say("spread", { size }), frame)];
-}
-
 // Draws what lies between two places of a batch. Gives back the picture with its scales, for the
-// cursor. `groups` are its subgroups, or nothing where only the nets are drawn.
-export function drawChart({ sheet, packs, view, wide, groups = null }) {
-  const isOnly = groups === null;
+// cursor. `below` draws what stands below the nets, by their frame; without it they stand alone.
+export function drawChart({ sheet, packs, view, wide, below = null }) {
+  const isOnly = below === null;
   const frame = frameOf({ sheet, packs, view, wide, isOnly });
   const shown = packs.slice(...view);
   const { left, nets, high, end, up, limits } = frame;
@@ -208,12 +166,6 @@ export function drawChart({ sheet, packs, view, wide, groups = null }) {
   frame.frame, limitLines(frame), packMarks(shown, frame, isOnly), meanLine(packs, view, frame),
   histogramBars(shown, frame, isOnly), tareLines(packs, view, frame),
   packNumbers(packs, view, frame, wide), text(left, nets.top - 22, say("individuals"), "strong"),
-  groups?.groups.length ? subgroupPanels(groups, view, frame) : []);
+  below ? below(view, frame) : []);
   return { picture, ...frame };
-}
-
-export function groupsOf(packs, size) {
-  const groups = subgroups(packs, size);
-  groups.marked = groups.groups.length ? markRules(groups.groups, groups.bounds) : [];
-  return groups;
 }

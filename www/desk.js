@@ -284,7 +284,7 @@ export async function build(section) {
   section.append(place.desk, place.names, place.dialog);
   // the forms are there before the first one is opened, also where the link breaks by then
   for (const sign of ["focusin", "pointerover"]) {
-    place.desk.addEventListener(sign, loadForms, { once: true });
+    place.desk.addEventListener(sign, ({ target }) => target.closest(".menu, .held") && loadForms());
   }
   onChange(putTold);
   onDesk(putTold);

@@ -5,10 +5,11 @@
 import { addWords, say } from "./words.js";
 import { FIELDS, KINDS, readEntry } from "./entered.js";
 import { deskChoice } from "./mydesk.js";
-import { dueWords, spellDay } from "./evidenceshown.js";
+import { dueWords } from "./evidenceshown.js";
 import { grams } from "./evidencewords.js";
 import { isReady, makeSaid, sendAct, tell } from "./acts.js";
 import { loadStyles, make, notice, tag } from "./page.js";
+import { spellDay } from "./evidencekinds.js";
 import { table } from "./parts.js";
 import { Missing, reach } from "./office.js";
 import { soonPage } from "./soon.js";
@@ -38,6 +39,9 @@ const post = (kind, subject, body) => ask(`evidence/${kind}/${encodeURIComponent
   { method: "POST", headers: { "Content-Type": "application/json" }, body: JSON.stringify(body) });
 
 const resultTag = ({ result }) => tag(...SIGNS[result], say(`result.${result}`));
+
+// Calls for help are kept as evidence is; they stand among what is to be seen to.
+const isProof = ({ kind }) => kind !== "call";
 
 function newestTable(records) {
   if (records.length === 0) return make("p", {}, say("noEvidence"));
@@ -111,25 +115,27 @@ function choice(forms) {
   select.addEventListener("change", show);
   show();
   return make("p", { className: "field" },
-    make("label", { for: "e-kind" }, say("enterEvidence")), select);
+    make("label", { for: "e-kind" }, say("head.kind")), select);
 }
 
 export async function build(section) {
-  await loadStyles("parts.css", "tables.css", "forms.css");
+  await loadStyles("parts.css", "tables.css", "forms.css", "evidence.css");
   const first = await ask("newest").catch(() => null);
   if (!first) return void soonPage("evidence").build(section);
   const [newest, due] = [make("div", { className: "scroll" }), make("div", { role: "status" })];
   const show = async () => {
-    newest.replaceChildren(newestTable((await ask("newest")).said));
+    newest.replaceChildren(newestTable((await ask("newest")).said.filter(isProof)));
     const { evidence, books } = (await ask("alarms")).said;
     const said = [...evidence.map(dueWords), ...books.map(({ book, what }) => `${book}: ${what}`)];
     due.replaceChildren(...(said.length ? [notice("alarm", "warn", say("overdue"),
       make("ul", {}, said.map((text) => make("li", {}, text))))] : []));
   };
   const forms = Object.fromEntries(KINDS.map((kind) => [kind, formOf(kind, show)]));
-  section.append(make("h1", {}, say("evidence")), due, make("section", { className: "panel" },
-    make("h2", {}, say("newest")), newest), make("section", { className: "panel" },
-    deskChoice("e-desk"), choice(forms), Object.values(forms)));
+  const panel = (name, ...more) => make("section", { className: "panel" },
+    make("h2", {}, say(name)), more);
+  section.append(make("h1", {}, say("evidence")), due, make("div", { className: "evidence" },
+    panel("enterEvidence", deskChoice("e-desk"), choice(forms), Object.values(forms)),
+    panel("newest", newest)));
   await show();
 }
 

@@ -205,6 +205,18 @@ function buildVoid() {
   });
 }
 
+// A button that calls for help, where the archive is there; it is loaded behind the station.
+function buildHelp() {
+  place.help = make("button", { type: "button", className: "st-help second", hidden: true });
+  place.helpSaid = make("p", { className: "st-told", role: "status" });
+  place.helper = import("./help.js").then(({ HelpButton }) =>
+    new HelpButton(place.help, place.helpSaid), () => null);
+}
+
+async function putHelp() {
+  (await place.helper)?.refresh(state.lane);
+}
+
 // A button that opens a dialog with the batches, where the lane changes its batch.
 function buildChange() {
   place.other = make("dialog");
@@ -261,8 +273,10 @@ function buildStation() {
   place.signal.setAttribute("aria-label", say("signal"));
   buildVoid();
   buildChange();
+  buildHelp();
   place.section.replaceChildren(part("div", "st-head", place.number,
-    part("p", "st-batch", place.batch, place.goods), place.change,
+    part("p", "st-batch", place.batch, place.goods), place.helpSaid,
+    place.help, place.change,
     make("a", { href: "#lane" }, say("otherLane")), make("a", { href: "#board" }, say("board"))),
   part("div", "station", place.signal,
     part("section", "panel st-last", make("h2", {}, say("lastTen")), place.last, place.void),
@@ -310,5 +324,6 @@ export async function refresh() {
     putProgress();
     putVoid();
     putChange();
+    putHelp();
   }
 }

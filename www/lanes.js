@@ -6,13 +6,14 @@ import { packAt, packs } from "./packs.js";
 
 // Rows that are read at first, and at most at once; of more the newest are seen, and counted for
 // those that weren't.
-const MOST_ROWS_ASKED = 1_024;
+const MOST_ROWS_ASKED = 2_048;
 const LAST_PACKS = 60;
 const MOST_BATCHES = 16;
 const MINUTE = 60_000;
-// The sheet of a batch of which packs come is asked this often, in milliseconds: what it says is
-// the forecast, and each question costs as much as a hundred packs.
+// The sheet of a batch of which packs come is asked this often, in milliseconds, and on a fast hall:
+// what it says is the forecast, and each question costs as much as a hundred packs.
 const SHEET_EVERY = 2_000;
+const SHEET_SELDOM = 8_000;
 // A rate is told when packs were counted for so long.
 const LEAST_COUNTED = 10_000;
 
@@ -21,7 +22,7 @@ const LEAST_COUNTED = 10_000;
 export class Hall {
   constructor() {
     Object.assign(this, { lanes: new Map(), sheets: new Map(), follower: new Follower(), since: 0,
-      apart: 1, counted: 0, stale: new Set(), askedAt: new Map() });
+      apart: 1, counted: 0, isFast: false, stale: new Set(), askedAt: new Map() });
   }
 
   // Asks what is new. Gives back how many rows the book has.
@@ -82,7 +83,7 @@ export class Hall {
 
   // The batches of which packs came, and whose sheets were asked long enough ago.
   due() {
-    const old = Date.now() - SHEET_EVERY;
+    const old = Date.now() - (this.isFast ? SHEET_SELDOM : SHEET_EVERY);
     return [...this.stale].filter((batch) => (this.askedAt.get(batch) ?? 0) <= old);
   }
 

@@ -3,7 +3,7 @@
 // the sample is doing: defective packs against the numbers of the plan, mean, s and limit.
 
 import * as office from "./office.js";
-import { CODE, addWords, say } from "./words.js";
+import { CODE, addWords, say, time } from "./words.js";
 import { empty, farOff, fault, gross, isFarOff, isReady, makeSaid, read, sendAct } from
   "./acts.js";
 import { contentsCheck, defectsOf, meanCheck } from "./sample.js";
@@ -11,6 +11,7 @@ import { count, fixed, grams } from "./numbers.js";
 import { icon, make, notice, put, shape, tag } from "./page.js";
 import { keepMeasured, measuredOf } from "./measured.js";
 import { limitsOf, planOf } from "./rules.js";
+import { actsOf, hourOf } from "./archived.js";
 import { packAt } from "./packs.js";
 import { packsOf } from "./batchpacks.js";
 
@@ -32,7 +33,8 @@ async function taskOf(sheet) {
   const part = isSecond ? sheet.second : sheet.first;
   return { sheet, sample, isSecond, numbers, turn: inTurn(numbers, part.measured),
     plan: planOf(sheet.population, sheet.mode), limits: limitsOf(sheet), mode: sheet.mode,
-    known: measuredOf(sheet.batch), passed: new Set(), tares: new Map(), order: null };
+    known: measuredOf(sheet.batch), passed: new Set(), tares: new Map(), order: null,
+    hours: new Map() };
 }
 
 // What a measured pack contains; nothing where it isn't known here.
@@ -113,9 +115,20 @@ async function readOrder(task, isWanted) {
 
 function whereWords(task, pack) {
   const found = task.order?.get(pack.number);
-  if (!found) return say("mLane", pack);
-  return say("mOrder", { ...found, place: count(found.place),
-    all: count(task.laneCounts.get(found.lane)) });
+  const hour = task.hours.get(pack.number);
+  const lane = found ? say("mOrder", { ...found, place: count(found.place),
+    all: count(task.laneCounts.get(found.lane)) }) : say("mLane", pack);
+  return hour ? `${lane}, ${time(hour, true)}` : lane;
+}
+
+// The hours of the drawn packs, where an archive has them.
+async function readHours(task, isWanted) {
+  const [opened] = await actsOf(task.sheet, Math.min(...task.numbers));
+  if (!opened) return;
+  for (const number of task.turn) {
+    if (!isWanted()) return;
+    task.hours.set(number, await hourOf(opened.book, number));
+  }
 }
 
 // ---- the mode itself
@@ -197,18 +210,25 @@ class Measuring {
     this.pack = await packAt(next);
     put(this.number, count(next));
     put(this.at, say("mPlace", { at: task.numbers.indexOf(next) + 1, all }));
-    const isForMean = !task.isSecond && task.numbers.indexOf(next) < task.plan.means;
-    put(this.where, whereWords(task, this.pack) + (isForMean ? ` · ${say("mForMean")}` : ""));
+    this.putWhere();
     put(this.onLane, say("mOnLane", { gross: grams(this.pack.gross) }));
     this.gross.value = this.empty.value = "";
     this.judge();
     this.gross.focus();
   }
 
+  putWhere() {
+    const { task, pack } = this;
+    if (!pack || this.form.hidden) return;
+    const isForMean = !task.isSecond && task.numbers.indexOf(pack.number) < task.plan.means;
+    put(this.where, whereWords(task, pack) + (isForMean ? ` · ${say("mForMean")}` : ""));
+  }
+
   putFigures() {
     const { task } = this;
     this.figures.replaceChildren(...figuresOf(task).map(([name, value, more]) => make("div", {},
-      make("dt", {}, name), make("dd", {}, value, make("small", {}, more)))));
+      make("dt", {}, name), make("dd", {}, value),
+      more ? make("dd", { className: "m-more" }, more) : null)));
     const shown = task.numbers.filter((number) => contentsOf(task, number) !== null).slice(-LAST);
     this.last.replaceChildren(...shown.reverse().map((number) => {
       const contents = contentsOf(task, number);
@@ -287,7 +307,9 @@ export async function open(place, sheet, leave) {
   const mode = new Measuring(task, leave);
   place.replaceChildren(mode.place);
   await mode.show();
-  office.following(() => readOrder(task, () => mode.isOpen && mode.place.isConnected))
-    .then(() => mode.pack && put(mode.where, whereWords(task, mode.pack)));
+  const isWanted = () => mode.isOpen && mode.place.isConnected;
+  for (const read of [readOrder, readHours]) {
+    office.following(() => read(task, isWanted)).then(() => mode.putWhere());
+  }
   return mode;
 }

@@ -5,13 +5,13 @@
 
 import * as office from "./office.js";
 import { CODE, addWords, say, time, word } from "./words.js";
+import { askArchive } from "./archived.js";
 import { allowedOf, limitsOf } from "./rules.js";
 import { contentsCheck } from "./sample.js";
 import { count, day, fixed, grams, percent, quantity } from "./numbers.js";
 import { icon, loadStyles, make, notice, shape } from "./page.js";
 import { BatchPage } from "./loader.js";
 import { drawChart } from "./chart.js";
-import { evidenceOf } from "./evidenceshown.js";
 import { failsOf } from "./forecast.js";
 import { measuredOf } from "./measured.js";
 import { readPaper } from "./paper.js";
@@ -189,7 +189,7 @@ function footOf(sheet, { paper }, evidence) {
   return make("footer", { className: "sh-foot" },
     make("p", {}, `${say("rounded")} ${sheet.verdict ? "" : say("notClosed")}`),
     make("p", {}, `${closing}${sheet.verdict ? say("proveIt", sheet) : ""} `
-      + say(evidence ? "byArchive" : "needArchive", sheet)),
+      + (evidence ? "" : say("needArchive"))),
     make("div", { className: "sh-sign" },
       make("p", {}, say("printed", { day: day(date), time: time(now), row: count(sheet.rows) })),
       make("p", { className: "sign" }, say("signed"))));
@@ -228,11 +228,19 @@ function paperField(sheet, take) {
     make("label", { for: "sheet-paper" }, say("choosePaper", sheet)), input, bad);
 }
 
+// What the archive adds; nothing where none answers.
+async function archived(sheet, packs) {
+  const newest = await askArchive("newest");
+  if (!newest) return null;
+  const { proofsOf } = await import("./sheetproofs.js");
+  return proofsOf(sheet, newest, packs[0]?.number ?? Infinity);
+}
+
 async function draw(place, sheet, packs) {
   const text = sheet.verdict ? await office.paper(sheet.batch) : "";
   const served = readPaper(text);
   const paper = served?.batch === sheet.batch ? served : null;
-  const evidence = await evidenceOf(sheet);
+  const evidence = await archived(sheet, packs);
   const printer = make("button", { type: "button" }, icon("print"), say("print"));
   printer.addEventListener("click", () => print());
   const put = (samples) => place.replaceChildren(

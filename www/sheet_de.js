@@ -67,7 +67,6 @@ export default {
   proveIt: "Zum Prüfen: hall paper --batch {batch}, dann prove.",
   needArchive:
     "Wer und wann, und die Nachweise zu Taren und Waagen, brauchen das Archiv der Halle.",
-  byArchive: "Wer und wann: hall-archive story BUCH {batch}.",
   signed: "Geprüft von, am",
   printed: "Gedruckt {day} {time} aus Zeile {row} des Buchs.",
   choosePaper: "Papier der Charge (hall paper --batch {batch})",

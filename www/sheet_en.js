@@ -63,7 +63,6 @@ export default {
   closedAt: "Closed by row {row}. Fingerprint at the closing: hall audit --book BOOK --rows {row}",
   proveIt: "To check it: hall paper --batch {batch}, then prove.",
   needArchive: "Who and when, and the evidence on tares and scales, need the archive of the hall.",
-  byArchive: "Who and when: hall-archive story BOOK {batch}.",
   signed: "Checked by, date",
   printed: "Printed {day} {time} from row {row} of the book.",
   choosePaper: "Paper of the batch (hall paper --batch {batch})",

@@ -30,7 +30,8 @@ function standing(sheet) {
   const plan = planOf(sheet.population, sheet.mode);
   const facts = [[say("wouldNow"), tag(loud, sign, told)],
     [say("countsNow"), count(sheet.population)],
-    [say("overNow"), `${spell(above, 2, true)} g · ${mass(aboveAll, true)}`],
+    [say("overNow"),
+      `${spell(above, 2, true)}\u00a0g · ${mass(aboveAll, true).replace(" ", "\u00a0")}`],
     [say("lightNow"), say("ofAllowed", { used: count(sheet.nonstandard),
       allowed: count(forecast.allowed) })]];
   if (sheet.first) {

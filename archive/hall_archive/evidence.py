@@ -22,6 +22,7 @@ MOST_VALUES = 100
 MOST_TEXT = 200
 MOST_MASS = 30_000_000
 DAY = 86_400_000
+NEVER = 36_500
 
 
 class BadEvidence(ValueError):
@@ -157,11 +158,23 @@ def uncertainty(body: dict[str, Any]) -> dict[str, Any]:
     }
 
 
+def call(body: dict[str, Any]) -> dict[str, Any]:
+    """A call for help from a lane, until somebody has come: kept beside the evidence, since it too
+    has a person and an hour and is never changed."""
+    is_open = number(body, "open", 0, 1)
+    return {
+        "open": is_open,
+        "reason": text(body, "reason"),
+        "result": "bad" if is_open else "good",
+    }
+
+
 KINDS: dict[str, Callable[[dict[str, Any]], dict[str, Any]]] = {
     "tare": tare,
     "scale": scale,
     "density": density,
     "uncertainty": uncertainty,
+    "call": call,
 }
 
 
@@ -213,7 +226,8 @@ def alarms(newest: list[Record], now: int, days: dict[str, int]) -> list[Alarm]:
     """What of the newest of each is too old, or isn't good."""
     said = []
     for one in newest:
-        most = days[one.kind]
+        # a call that was answered never grows old
+        most = days.get(one.kind, NEVER)
         if one.result != "good":
             said.append(Alarm(one.kind, one.subject, one.result, most))
         elif now - one.moment > most * DAY:

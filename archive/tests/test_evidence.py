@@ -65,6 +65,11 @@ class Kinds(unittest.TestCase):
             found = told("uncertainty", nominal=250_000, parts={"scale": scale, "tare": 100})
             self.assertEqual((found["used"], found["result"]), (scale + 100, result))
 
+    def test_a_call(self) -> None:
+        for is_open, result in ((1, "bad"), (0, "good")):
+            found = told("call", open=is_open, reason="lane")
+            self.assertEqual((found["open"], found["result"]), (is_open, result))
+
     def test_what_cant_be(self) -> None:
         for kind, entered in (
             ("word", {}),
@@ -82,6 +87,8 @@ class Kinds(unittest.TestCase):
             ("density", {"readings": [], "temperature": 20_000, "method": "x"}),
             ("uncertainty", {"nominal": 250_000, "parts": {}}),
             ("uncertainty", {"nominal": 250_000, "parts": {"a": 1.5}}),
+            ("call", {"open": 2, "reason": "lane"}),
+            ("call", {"open": 1}),
         ):
             with self.assertRaises(BadEvidence, msg=(kind, entered)):
                 evaluate(kind, entered)
@@ -121,3 +128,9 @@ class Chain(unittest.TestCase):
         self.assertEqual(alarms(records, DAY + 1, days), [Alarm("scale", "0", "old", 1)])
         bad = records[1]._replace(body='{"result": "more"}')
         self.assertEqual(alarms([bad], 0, days), [Alarm("tare", "1", "more", 90)])
+
+    def test_a_call_is_an_alarm_until_somebody_came(self) -> None:
+        call = self.records()[0]._replace(kind="call", subject="3")
+        self.assertEqual(alarms([call], 30_000 * DAY, {}), [])
+        called = call._replace(body='{"result": "bad"}')
+        self.assertEqual(alarms([called], DAY, {})[0][:3], ("call", "3", "bad"))

@@ -1,0 +1,51 @@
+// What the archive adds to a sheet: the newest evidence on the goods and the scales, and who did
+// what with the batch, and when.
+
+import { CODE, addWords, say } from "./words.js";
+import { actsOf } from "./archived.js";
+import { make } from "./page.js";
+import { spellDay } from "./evidencekinds.js";
+
+addWords((await import(`./sheetproofs_${CODE}.js`)).default);
+
+const isOf = ({ product }) => ({ kind, subject }) => kind === "scale"
+  || (kind !== "call" && subject === product);
+
+const line = (name, value) => make("div", {}, make("dt", {}, name), make("dd", {}, value));
+
+const proofLine = ({ kind, subject, moment, person, body }) =>
+  line(`${say(`kind.${kind}`)}, ${subject}`,
+    `${say(`result.${body.result}`)}, ${spellDay(moment)}, ${person}`);
+
+const personOf = ({ person }) => person ?? say("nobodyKnown");
+const hourOf = ({ high }) => (high ? spellDay(high) : "–");
+
+// An act with its hour, its person and, where there is one, its reason.
+function actLine(act) {
+  const why = act.reason ? `: ${act.reason}` : "";
+  return line(say(`did.${act.kind}`), `${hourOf(act)}, ${personOf(act)}${why}`);
+}
+
+// What was measured, by person: so many packs, from when to when.
+function measuredLines(acts) {
+  return [...Map.groupBy(acts, personOf)].map(([person, own]) =>
+    line(say("didMeasure", { count: own.length }),
+      `${hourOf(own[0])} – ${hourOf(own.at(-1))}, ${person}`));
+}
+
+function actLines(acts) {
+  const own = acts.filter(({ kind }) => ["open", "end", "draw", "second", "void"].includes(kind));
+  const of = (kind) => acts.filter((act) => act.kind === kind);
+  return [...own.map(actLine), ...measuredLines(of("measure")), ...of("close").map(actLine)];
+}
+
+const part = (name, lines, none) => make("div", {}, make("h3", {}, say(name)), lines.length
+  ? make("dl", { className: "lines" }, lines) : make("p", { className: "sh-note" }, say(none)));
+
+// Both for a batch whose packs begin at a row, beside the newest evidence of each.
+export async function proofsOf(sheet, newest, firstPack) {
+  const acts = await actsOf(sheet, firstPack);
+  return make("section", { className: "sh-evidence" },
+    part("proofs", newest.filter(isOf(sheet)).map(proofLine), "noProofs"),
+    part("whoWhen", actLines(acts), "noActs"));
+}
