@@ -196,12 +196,9 @@ def updated_and_purged(debian: Debian, served: Served) -> None:
     need(debian.run(f"systemctl show -p MainPID {FOLLOW}", 0) != before, "the old one follows on")
     follows(debian, served)
     debian.run("apt-get purge -y hall-archive", 0)
-    left = debian.run(
-        "ls -d /usr/bin/hall-archive /usr/lib/hall-archive /lib/systemd/system/hall-arch*"
-    )
-    need(
-        "/usr/lib/hall-archive\n" not in left and "systemd/system/hall" not in left, f"left: {left}"
-    )
+    places = "/usr/bin/hall-archive /usr/lib/hall-archive /lib/systemd/system/hall-archive*"
+    left = debian.run(f"ls -d {places} 2>/dev/null || true")
+    need(left == "", f"after a purge there are {left}")
     debian.run("[ -s /var/lib/hall-archive/archive.db ]", 0)
     said = debian.run(f"systemctl is-active {FOLLOW} hall-archive hall-archive-read.socket || true")
     need("\nactive" not in f"\n{said}", f"purged, there is {said}")
