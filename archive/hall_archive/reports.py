@@ -15,7 +15,7 @@ from hall_archive.rows import day_text
 from hall_archive.sums import QUARTER, UNKNOWN
 
 # Closed batches that a report lists at most; all of them are counted.
-LISTED = 200
+LISTED = 100
 HOURLESS = "hour unknown"
 SUMS = """
     SELECT {key}, q.book, q.day, o.product, o.nominal, o.density, q.lane, q.signal, q.pile,
