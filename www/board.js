@@ -132,7 +132,7 @@ function makeLane(lane, sheet) {
     rate: make("strong"), spark: make("div", { className: "w-spark sized" }), drawn: "",
     out: make("span", { className: "w-out none" }), outs: make("strong"), cause: make("span") };
   part.net.className = "w-net";
-  part.out.append(icon("reject"), part.outs, part.cause);
+  part.out.append(part.outs, part.cause);
   part.spoken = make("span", { className: "unseen" });
   part.cell = make("section", { className: "w-lane", "aria-label": laneWords(lane.number) },
     make("div", {}, part.spoken,
