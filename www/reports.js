@@ -5,7 +5,8 @@
 import { LANGUAGE, addWords, say } from "./words.js";
 import { count, day, fixed, grams, mass } from "./numbers.js";
 import { drawDays } from "./reportchart.js";
-import { facts, icon, loadStyles, make, meter, notice, table, verdictTag } from "./page.js";
+import { icon, loadStyles, make, meter, notice } from "./page.js";
+import { facts, table, verdictTag } from "./parts.js";
 import { Missing, reach } from "./office.js";
 import { FIGURES, batchLink, moneyOf, rowsOf } from "./reportwords.js";
 import { soonPage } from "./soon.js";
@@ -178,7 +179,7 @@ const today = () => new Date(Date.now() - new Date().getTimezoneOffset() * 60_00
   .toISOString().slice(0, 10);
 
 export async function build(section) {
-  await loadStyles("figures.css", "forms.css", "reports.css");
+  await loadStyles("parts.css", "tables.css", "figures.css", "forms.css", "reports.css");
   if (!await ask("halls").catch(() => null)) return void soonPage("reports").build(section);
   state.last = today();
   state.first = `${state.last.slice(0, 8)}01`;

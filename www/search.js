@@ -5,7 +5,8 @@
 import { addWords, say } from "./words.js";
 import { batchLink } from "./reportwords.js";
 import { count, day, grams } from "./numbers.js";
-import { loadStyles, make, notice, signalTag, table, tag, verdictTag } from "./page.js";
+import { loadStyles, make, notice, tag } from "./page.js";
+import { signalTag, table, verdictTag } from "./parts.js";
 import { reach } from "./office.js";
 import { soonPage } from "./soon.js";
 
@@ -75,7 +76,7 @@ async function find(form, place, halls) {
 }
 
 export async function build(section) {
-  await loadStyles("forms.css", "search.css");
+  await loadStyles("parts.css", "tables.css", "forms.css", "search.css");
   const answer = await reach("archive/halls").catch(() => null);
   if (answer?.status !== 200) return void soonPage("search").build(section);
   const { halls } = JSON.parse(answer.text);
