@@ -6,7 +6,7 @@ import sqlalchemy as sa
 from alembic import op
 
 revision = "0010"
-down_revision = "0002"
+down_revision = "0003"
 KEY = ("book", "quarter", "batch", "day", "lane")
 # squares of masses in mg: the sum of an absurd quarter is beyond 64 bits
 WIDE = sa.Numeric(30, 0).with_variant(sa.BigInteger(), "sqlite")  # type: ignore[no-untyped-call]
