@@ -4,10 +4,10 @@
 #
 # Desk 101 sets the day, a product, its tare and a batch; lane 1 weighs 101 packs by a script; the
 # desk voids a pack and loses the answer, asks again, ends the batch, draws it, measures what was
-# drawn, is refused a second sample, closes it and reads its sheet and its packs. Then it enters
-# juice, which is sold by volume: a batch of it without its density and one too light are refused,
-# the next is weighed on lane 1, measured whole and closed. At the end its rows are read by the
-# page, as lines and as a shipment. Each request is a connection of its own.
+# drawn, is refused a second sample, closes it and reads its sheet, its packs and its lane. Then it
+# enters juice, which is sold by volume: a batch of it without its density and one too light are
+# refused, the next is weighed on lane 1, measured whole and closed. At the end its rows are read by
+# the page, as lines and as a shipment. Each request is a connection of its own.
 #
 # usage: tests/office.sh     (HALL names another program than the one that `./hall` builds)
 set -eu
@@ -42,7 +42,7 @@ as_script() {
 
 # reads a page
 page() {
-    curl -sS --retry 100 --retry-connrefused --retry-delay 0 "$url/$1"
+    curl -sS --retry 100 --retry-connrefused --retry-delay 0 "$url$1"
 }
 
 # sends a voiding and hangs up without reading the answer
@@ -78,15 +78,17 @@ act 3 '"tare","product":"rice250","day":"2025-03-03","tare":10000' >>"$room/http
 act 4 '"open","batch":"A","product":"rice250"' >>"$room/http"
 wait
 weighings A $PACKS 262.000 | "$hall" run --book "$room/office.book" >/dev/null
-serve $((2 + 3 + DRAWN + 2 + 1 + 4 + 5))
+serve $((2 + 3 + DRAWN + 2 + 1 + 4 + 2 + 5))
 until lose 5 2>/dev/null; do :; done
 act 5 "\"void\",\"pack\":$VOIDED" >>"$room/http"
 act 6 '"end","batch":"A"' >>"$room/http"
 act 7 '"draw","batch":"A","mode":"keep","word":7' >>"$room/http"
-page batches/A/sample >"$room/sample.A"
+page /batches/A/sample >"$room/sample.A"
 measure A 262000 8 >>"$room/http"
-page batches/A >>"$room/http"
-for pack in 0 50 $((PACKS + 5)) 4294967295; do page batches/A/packs/$pack >>"$room/http"; done
+page /batches/A >>"$room/http"
+for pack in 0 50 $((PACKS + 5)) 4294967295; do page /batches/A/packs/$pack >>"$room/http"; done
+page /packs/$VOIDED >>"$room/http"
+page /lanes/1 >>"$room/http"
 next=$((8 + DRAWN + 1))
 opening=$((next + 2))
 act $next '"product_ml","name":"juice","nominal":1000000' >>"$room/http"
@@ -99,13 +101,13 @@ weighings J $BOTTLES 1078.250 | "$hall" run --book "$room/office.book" >/dev/nul
 serve $((3 + BOTTLES + 2 + 2 + 2 + 5))
 act $((next + 3)) '"end","batch":"J"' >>"$room/http"
 act $((next + 4)) '"draw","batch":"J","mode":"keep","word":5' >>"$room/http"
-page batches/J/sample >"$room/sample.J"
+page /batches/J/sample >"$room/sample.J"
 measure J 1078250 $((next + 5)) >>"$room/http"
-page batches/J >>"$room/http"
-for batch in J N; do page batches/$batch/packs/0; done | as_script >>"$room/http"
-page summary >>"$room/http"
-for after in 0 128 1000000; do page acts/$after >>"$room/acts"; done
-for after in 0 128; do page rows/$after >"$room/rows.$after"; done
+page /batches/J >>"$room/http"
+for batch in J N; do page /batches/$batch/packs/0; done | as_script >>"$room/http"
+page /summary >>"$room/http"
+for after in 0 128 1000000; do page /acts/$after >>"$room/acts"; done
+for after in 0 128; do page /rows/$after >"$room/rows.$after"; done
 wait
 
 # ---- the same day as scripts
@@ -133,6 +135,7 @@ weighings A $PACKS 262.000 | run >/dev/null
     measurings A 262 8
     echo sheet A
     printf '%s\n' 'packs A 0' 'packs A 50' "packs A $((PACKS + 5))" 'packs A 4294967295'
+    printf '%s\n' "pack $VOIDED" 'lane 1'
     printf '%s\n' "@101 $next product juice 1000 ml" "@101 $((next + 1)) tare juice 2025-03-03 30" \
         "@101 $opening open J juice" "@101 $opening open J juice 499.999" \
         "@101 $opening open J juice 1040.5"

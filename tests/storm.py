@@ -159,19 +159,20 @@ class Visitor(Client):
         return True
 
     def question(self, link):
-        batch = f"B{self.desk.number}-{self.draw.randrange(400)}"
-        path, said = self.draw.choice((
-            ("/summary?now", "rows "), (f"/lanes/{self.draw.randint(1, 16)}", "lane "),
-            (f"/batches/L{self.draw.randint(1, LANES)}", "batch "), (f"/batches/{batch}", "batch "),
-            (f"/packs/{self.draw.choice(self.packs() or [0])}", "pack "),
-            # (nothing where no pack is above)
-            (f"/batches/L{self.draw.randint(1, LANES)}/packs/{self.draw.randrange(9999)}", ""),
-            (f"/batches/{batch}/sample", "sample ")))
+        draw, batch = self.draw, f"B{self.desk.number}-{self.draw.randrange(400)}"
+        lane, line = draw.randint(1, LANES), draw.randint(1, 16)
+        pack, after = draw.choice(self.packs() or [0]), draw.randrange(9999)
+        path, said = draw.choice((
+            ("/summary?now", b"rows "), (f"/lanes/{line}", b"lane "), (f"/packs/{pack}", b"pack "),
+            (f"/batches/L{lane}", b"batch "), (f"/batches/{batch}", b"batch "),
+            (f"/batches/{batch}/sample", b"sample "), (f"/rows/{after}", b"AQHSHIP2"),
+            # (nothing where no row comes after, or no pack is above)
+            (f"/acts/{after}", b""), (f"/batches/L{lane}/packs/{after}", b"")))
         self.sent["questions"] += 1
-        version = self.draw.choice((b"HTTP/1.1", b"HTTP/1.1", b"HTTP/1.1", b"HTTP/1.0"))
+        version = draw.choice((b"HTTP/1.1", b"HTTP/1.1", b"HTTP/1.1", b"HTTP/1.0"))
         response = link.ask(get(path).replace(b"HTTP/1.1", version))
         need(response.status == 409 and response.json()["at"] == response.row
-             or response.status == 200 and response.body.decode().startswith(said),
+             or response.status == 200 and response.body.startswith(said),
              f"{path} is answered {response}")
         need(response.last == (version == b"HTTP/1.0"), f"{version}: {response}")
         return not response.last or self.end(link)

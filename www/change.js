@@ -53,7 +53,8 @@ const FRESH = 400;
 // A scanner types faster than this, in milliseconds between two letters.
 const PAUSE = 1_000;
 const MOST_OFFERED = 24;
-const STATE = 15;
+// What a refusal at which a lane waits keeps, by its number, as a sheet has it.
+const KEPT = { 15: "state", 19: "product" };
 
 const pause = (time) => new Promise((go) => setTimeout(go, time));
 
@@ -69,7 +70,7 @@ function answered({ status }, values) {
 // The refusal in words, with what the book keeps of the batch.
 async function whyRefused(batch, number) {
   const about = await askSheet(batch).catch(() => ({ refused: true }));
-  return refusal(number, about.refused ? batch : number === STATE ? about.state : about.product);
+  return refusal(number, about.refused ? batch : about[KEPT[number]]);
 }
 
 // What the book or the hall says of a change; nothing as long as neither does.
