@@ -104,7 +104,7 @@ export function isReady(said) {
   return !lack;
 }
 
-// Sends an act, and tells what became of it. Gives back its outcome.
+// Sends an act, and shows what became of it. Gives back its outcome.
 export async function sendAct(said, act) {
   tell(said, "", say("underWay"));
   const entry = await outcome(myDesk(), give(myDesk(), act));
@@ -121,7 +121,7 @@ export async function sendAct(said, act) {
   return entry;
 }
 
-// ---- what this browser was told
+// ---- what this browser was answered
 
 // The units of the members of an act, whose values are whole thousandths; of goods by volume the
 // nominal quantity is in ml.

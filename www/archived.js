@@ -10,7 +10,7 @@ export async function askArchive(path) {
 }
 
 // The acts on a batch, in the book that this hall has. A batch of the same name in another book was
-// opened behind the first pack of this one, or has rows that this book hasn't; where that doesn't
+// opened after the first pack of this one, or has rows that this book hasn't; where that doesn't
 // tell them apart there are none.
 export async function actsOf({ batch, rows }, firstPack) {
   const all = await askArchive(`acts?batch=${encodeURIComponent(batch)}`) ?? [];

@@ -28,8 +28,8 @@ function isAsTold(sheet, found) {
 // Pages of a batch that are asked for at once: as many as a front mostly has doors.
 const AT_ONCE = 3;
 
-// The parts in which the packs of a batch behind a page are read at once, each above one number up
-// to an end; about as many in each, as the page tells how far apart they lie.
+// The parts in which the packs of a batch after a page are read at once, each above one number up
+// to an end; about as many in each, as the page shows how far apart they lie.
 function partsBehind(page, left) {
   const [first, last] = [page[0].number, page.at(-1).number];
   const many = Math.min(AT_ONCE, Math.ceil(left / PAGE));
@@ -49,7 +49,7 @@ async function readPart(batch, part, goesOn) {
   }
 }
 
-// The packs of a batch in order of weighing, behind those that were read before. Of parts that were
+// The packs of a batch in order of weighing, after those that were read before. Of parts that were
 // stopped on the way all up to the first of them is kept.
 export async function packsOf(sheet, progress) {
   const { batch, piles: { readings } } = sheet;

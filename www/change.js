@@ -1,6 +1,6 @@
 // Another batch for a lane that changes it: a dialog with the open batches that have no lane, a
 // field for a name, and scans that a scanner types at the lane's page. The lane's adapter says it to
-// the hall; what became of it is told as soon as the book or the hall says so.
+// the hall; what became of it is shown as soon as the book or the hall says so.
 
 import { Missing, allLanes, lane as askLane, lanes as askPlan, list, reach, sheet as askSheet }
   from "./office.js";
@@ -37,8 +37,8 @@ addWords({
   changeDisk: ["The batch can't be kept on the lane's disk. Nothing was changed; call the office.",
     "Die Charge lässt sich auf der Platte der Linie nicht festhalten. Nichts wurde geändert; das "
       + "Büro rufen."],
-  changeUnsure: ["{lane} may have been told {batch}, and it isn't known yet what became of it. Look "
-    + "at the lane.",
+  changeUnsure: ["{batch} may have reached {lane}, and it isn't known yet what became of it. Look at "
+    + "the lane.",
   "{lane} hat {batch} vielleicht gehört, und noch ist nicht bekannt, was daraus wurde. Die Linie "
     + "ansehen."],
 });
@@ -46,7 +46,7 @@ addWords({
 const NAME = /^[A-Za-z0-9][A-Za-z0-9._-]{0,31}$/;
 const SCAN = /^batch ([^ \t\r]{1,32})$/;
 // How often it is asked what became of a change, and for how long, in milliseconds; a refusal that
-// was told before it isn't its own.
+// was reported before it isn't its own.
 const EVERY = 100;
 const PATIENCE = 5_000;
 const FRESH = 400;

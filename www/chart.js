@@ -1,5 +1,5 @@
 // Draws the chart of a batch: nets one by one with their mean of 30, and the histogram, by one scale
-// across. Shapes and words tell what colours tell; packs of a kind are one path, so that ten
+// across. Shapes and words say what colours say; packs of a kind are one path, so that ten
 // thousand of them are drawn at once.
 
 import { addWords, say } from "./words.js";

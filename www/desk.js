@@ -121,7 +121,7 @@ async function told() {
   await office.following(askAll);
   putLists();
   const sheet = state.sheets.get(state.batch);
-  // what the act was told stays above the next step
+  // what the act was answered stays above the next step
   const said = place.work.querySelector(".said:not(:empty)");
   if (sheet && said) put(place.said, said.textContent);
   putWork(true);

@@ -20,7 +20,7 @@ export default {
   "next second": "zweite Probe ziehen",
   "next close": "abschließen",
   noForm: "Keine Antwort: das Formular kann jetzt nicht gezeigt werden.",
-  told: "Vom Buch gesagt",
+  told: "Antworten des Buchs",
   bookDay: "Tag des Buchs: {day}",
   inForce: "Was gilt",
   // the steps

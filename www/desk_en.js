@@ -20,7 +20,7 @@ export default {
   "next second": "draw the second sample",
   "next close": "close it",
   noForm: "No answer: the form can't be shown now.",
-  told: "Told by the book",
+  told: "Answers of the book",
   bookDay: "Day of the book: {day}",
   inForce: "What is in force",
   // the steps

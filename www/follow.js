@@ -1,5 +1,5 @@
-// Follows the book by its acts: one question asks for all that is new behind a row. What is shown of
-// a pack is reckoned from its act, with the tare that the book tells once for a batch and a day.
+// Follows the book by its acts: one question asks for all that is new after a row. What is shown of
+// a pack is reckoned from its act, with the tare that the book gives once for a batch and a day.
 
 import * as office from "./office.js";
 import { PAGE, classOf, limitsOf } from "./rules.js";
@@ -13,8 +13,8 @@ async function limitsIn(batch) {
   return limits.get(batch);
 }
 
-// The acts behind a row, page by page until one isn't full; of more than so many the newest, behind
-// a gap.
+// The acts after a row, page by page until one isn't full; of more than so many the newest, after a
+// gap.
 async function actsBehind(after, most) {
   let { rows, acts } = await office.acts(after);
   if (rows - after > most) ({ rows, acts } = await office.acts(rows - most));
@@ -26,7 +26,7 @@ async function actsBehind(after, most) {
   return { rows, acts: all };
 }
 
-// A pack as it is shown, of what its act tells and of the tare of its batch and day.
+// A pack as it is shown, of what its act says and of the tare of its batch and day.
 function packOf({ number, run: { batch }, lane, gross, signal, pile }, tare, bounds) {
   const net = gross - tare;
   return { number, batch, lane, gross, net, class: classOf(net, bounds), signal, pile };
@@ -57,7 +57,7 @@ export class Follower {
   }
 
   // What is new: the rows of the book, packs, and what `Weighings.news` says besides. Packs that
-  // aren't wanted are left out. Of two who ask at once the second is told what came since.
+  // aren't wanted are left out. Of two who ask at once the second gets what came since.
   news(most, isWanted = () => true) {
     const next = () => this.ask(most, isWanted);
     this.asked = this.asked.then(next, next);

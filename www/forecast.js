@@ -49,7 +49,7 @@ function averageOf(batch) {
   };
 }
 
-// The whole forecast. `kind` is how loud it is told: `empty`; `held`; `early`, under 100 packs;
+// The whole forecast. `kind` is how loud it is shown: `empty`; `held`; `early`, under 100 packs;
 // `edge`, one pack over the allowance and nothing else, which good packs mend by themselves, since
 // the gate lets one such pack out; `fail`; `ok`.
 export function forecastOf(batch, share = null) {

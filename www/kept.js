@@ -1,11 +1,11 @@
 // What this browser keeps of a desk: acts that wait for an answer, outcomes, the desk's last
 // number. Another program or an older page may have written there too; acts that can't be read are
-// set aside and told, since nobody knows whether they were done.
+// set aside and shown, since nobody knows whether they were done.
 
 import { keep, readKept, readText } from "./store.js";
 
 const key = (desk, what) => `hall.${what}.${desk}`;
-// Of so many spoiled texts, and of so many letters of one, is told.
+// So many spoiled texts are shown, and so many letters of one.
 const MOST_LOST = 20;
 const LONGEST_LOST = 500;
 

@@ -1,4 +1,4 @@
-// The station of a lane, on a tablet: what the gate was told of the last pack, why, and what to do;
+// The station of a lane, on a tablet: what the gate was signalled at the last pack, why, and what to do;
 // the last ten packs; how the batch stands; and the void of a pack that has left the gate.
 
 import * as office from "./office.js";
@@ -205,7 +205,7 @@ function buildVoid() {
   });
 }
 
-// A button that calls for help, where the archive is there; it is loaded behind the station.
+// A button that calls for help, where the archive is there; it is loaded after the station.
 function buildHelp() {
   place.help = make("button", { type: "button", className: "st-help second", hidden: true });
   place.helpSaid = make("p", { className: "st-told", role: "status" });

@@ -14,7 +14,7 @@ const MINUTE = 60_000;
 // what it says is the forecast, and each question costs as much as a hundred packs.
 const SHEET_EVERY = 2_000;
 const SHEET_SELDOM = 8_000;
-// A rate is told when packs were counted for so long.
+// A rate is shown when packs were counted for so long.
 const LEAST_COUNTED = 10_000;
 
 // What is followed: lanes by number, sheets by batch. `apart` is how many packs each one seen of the
@@ -101,7 +101,7 @@ export class Hall {
     }
   }
 
-  // At first, and behind a gap, it is asked.
+  // At first, and after a gap, it is asked.
   async askLanes(touched) {
     for (const { number, batch } of await office.allLanes()) {
       if (batch || this.lanes.has(number)) this.laneOf(number).batch = batch;

@@ -33,7 +33,7 @@ export function percent(part, places = 2, isSigned = false) {
   return `${fixed(part * 100, places, isSigned)} %`;
 }
 
-// A mass in the unit in which it is read best. What is small is told to the milligram.
+// A mass in the unit in which it is read best. What is small is given to the milligram.
 export function mass(milligrams, isSigned = false) {
   const size = Math.abs(milligrams);
   if (size >= 1e9) return `${fixed(milligrams / 1e9, 2, isSigned)} t`;

@@ -10,7 +10,7 @@ export const PATIENCE = 20_000;
 const AT_ONCE = 4;
 const PACK_UNKNOWN = 24;
 
-// The book that an address names behind a batch, as `#sheet/MORNING/2026-11`: the archive answers of
+// The book that an address names after a batch, as `#sheet/MORNING/2026-11`: the archive answers of
 // it what its office did. Without one it is the hall itself.
 export function bookOf(hash) {
   const [page, , book] = hash.slice(1).split("/");
@@ -29,7 +29,7 @@ export const link = { at: 0, why: "" };
 let free = AT_ONCE;
 const waiting = [];
 
-// A question that can wait comes behind all others.
+// A question that can wait comes after all others.
 async function enter(canWait) {
   if (free > 0) free -= 1;
   else await new Promise((go) => (canWait ? waiting.push(go) : waiting.unshift(go)));
@@ -105,7 +105,7 @@ export async function pack(number) {
   return answer.refused === PACK_UNKNOWN ? null : readPack(number, answer.text);
 }
 
-// The acts behind a row, a page of them, and how many rows the book has.
+// The acts after a row, a page of them, and how many rows the book has.
 export async function acts(after) {
   const answer = await ask(`acts/${after}`);
   return { rows: answer.row, acts: readActs(answer.text) };

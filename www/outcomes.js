@@ -1,4 +1,4 @@
-// What became of an act, as a sentence. The sentences of refusals are loaded when one is told.
+// What became of an act, as a sentence. The sentences of refusals are loaded when one is shown.
 
 import { addWords, say, word } from "./words.js";
 

@@ -50,13 +50,13 @@ export function icon(name) {
     shape("path", { d: ICONS[name] }));
 }
 
-// A sign and its word: what is told by colour is told by these too.
+// A sign and its word: what is said by colour is said by these too.
 export function tag(kind, sign, text) {
   return make("span", { className: `tag ${kind}` }, icon(sign), make("span", {}, text));
 }
 
 // How much of what is allowed is used: the bar ends at what is allowed, and what is over it lies
-// behind a tick. The words beside it say the same.
+// past a tick. The words beside it say the same.
 export function meter(used, allowed, kind = "") {
   const whole = Math.max(used, allowed, 1);
   const wide = (part) => Math.round(part / whole * 1000) / 10;

@@ -56,7 +56,7 @@ addWords({
 
 const thousandths = (places) => (value) => grams(value, places);
 
-// The figures of a line, and how each is spelled.
+// The figures of a line, and how each is written.
 export const FIGURES = [
   ["readings", count], ["rejected", count], ["voided", count], ["population", count],
   ["mean", thousandths(3)], ["deviation", thousandths(3)], ["each", thousandths(2)],

@@ -88,7 +88,7 @@ function spell(act) {
   return Object.entries(act).map(([name, value]) => `"${name}":${text(value)}`).join(",");
 }
 
-// Takes an act down under the next number, and sends it. Says by which mark its outcome is told.
+// Keeps an act under the next number, and sends it. Says by which mark its outcome is found.
 export function give(desk, act) {
   const mark = crypto.randomUUID();
   const acts = pending(desk);
@@ -99,7 +99,7 @@ export function give(desk, act) {
   return mark;
 }
 
-// The outcome of an act, as soon as it is told, by whichever page of this browser.
+// The outcome of an act, as soon as it is known, by whichever page of this browser.
 export function outcome(desk, mark) {
   return new Promise((tell) => {
     const look = () => {
@@ -137,7 +137,7 @@ async function sendAll(desk) {
   }
 }
 
-// Sends the first act, behind what the book says of the desk's last number where it is new.
+// Sends the first act, after what the book says of the desk's last number where it is new.
 async function sendFirst(desk) {
   const isNew = pending(desk)[0].tries === 0;
   const found = isNew ? judge(isNew, await post(desk, ASK_LAST)) : null;
@@ -166,7 +166,7 @@ async function post(desk, head) {
 }
 
 // What an answer says of an act that is new, or was tried before:
-// `again` it has to be asked, it is `done`, was `refused`, or takes the number behind `last`.
+// `again` it has to be asked, it is `done`, was `refused`, or takes the number after `last`.
 function judge(isNew, answer) {
   if (answer.status === 200 && isObject(answer.text)) return { done: JSON.parse(answer.text) };
   if (answer.status === 409 && isObject(answer.text)) {
@@ -188,13 +188,13 @@ function judgeRefusal(isNew, { refused, kept }) {
   return isNew ? { last: Number(kept) } : { doubt: kept };
 }
 
-// Numbers acts that haven't been sent under a number that counts, from the one behind `last`.
+// Numbers acts that haven't been sent under a number that counts, from the one after `last`.
 function number(desk, acts, last) {
   keepOf(desk, "last", last);
   keepOf(desk, "acts", acts.map((act, place) => ({ ...act, request: last + 1 + place, tries: 0 })));
 }
 
-// Takes down what became of the first act. Those behind it weren't sent yet.
+// Keeps what became of the first act. Those after it weren't sent yet.
 function settle(desk, head, found) {
   if (found.last !== undefined) {
     number(desk, pending(desk), found.last === "this" ? head.request : found.last);

@@ -1,11 +1,11 @@
-// What the acts of the book tell of packs, taken in order. Pure: no page is needed.
+// What the acts of the book say of packs, taken in order. Pure: no page is needed.
 
 import { readMass } from "./grams.js";
 
 // The pile of a passed pack whose gate didn't open, by what the next act of its lane says.
 const UNOPENED = { stayed: "rejected", unknown: "voided" };
 const OF_A_BATCH = ["open", "end", "draw", "second", "close"];
-// Behind these a pack may weigh or lie otherwise, which the acts alone don't tell.
+// After these a pack may weigh or lie otherwise, which the acts alone don't say.
 const UNSURE = ["tare", "draw", "second"];
 
 // What each lane does. The batch of a lane that started before the first act isn't known: it is null
