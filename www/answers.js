@@ -30,7 +30,7 @@ export function readPack(number, text) {
 export const readPacks = (text) => linesOf(text)
   .map((line) => readPack(Number(line.split(" ")[1]), line));
 
-// Rows of the book as text: the number of each, what it was answered, and the words of its act, without
+// Rows of the book as text: the number of each, its answer, and the words of its act, without
 // its desk.
 export const readActs = (text) => linesOf(text).map((line) => {
   const [told, , asked] = line.split("\t");

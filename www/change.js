@@ -37,8 +37,8 @@ addWords({
   changeDisk: ["The batch can't be kept on the lane's disk. Nothing was changed; call the office.",
     "Die Charge lässt sich auf der Platte der Linie nicht festhalten. Nichts wurde geändert; das "
       + "Büro rufen."],
-  changeUnsure: ["{batch} may have reached {lane}, and it isn't known yet what became of it. Look at "
-    + "the lane.",
+  changeUnsure: ["{batch} may have reached {lane}, and it isn't known yet what became of it. Look "
+    + "at the lane.",
   "{lane} hat {batch} vielleicht gehört, und noch ist nicht bekannt, was daraus wurde. Die Linie "
     + "ansehen."],
 });

@@ -1,4 +1,4 @@
-// The station of a lane, on a tablet: what the gate was signalled at the last pack, why, and what to do;
+// The station of a lane, on a tablet: the signal of the last pack, why, and what to do;
 // the last ten packs; how the batch stands; and the void of a pack that has left the gate.
 
 import * as office from "./office.js";

@@ -1,4 +1,4 @@
-// The weights of a sample that this browser measured, or was answered when it measured a pack twice:
+// The weights of a sample that this browser measured, or that answered a pack measured twice:
 // kept for each batch, since the office can't be asked for them before the batch is closed.
 
 import { keep, readKept } from "./store.js";
