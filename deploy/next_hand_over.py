@@ -106,7 +106,7 @@ class HandOver:
             said = next_book.plan_of(self.lanes(), move.known["opened"], reserve)
         write(move.setting(new, "toml"), said, like=plan)
         if os.path.exists(metrics):
-            said = read(metrics).replace(f'"{old}"', f'"{new}"')
+            said = next_book.metrics_moved(read(metrics), old, new)
             write(move.setting(new, "metrics.toml"), said, like=metrics)
 
     def show(self) -> None:
