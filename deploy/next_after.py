@@ -61,7 +61,8 @@ class Afterwards:
             self.hand_on(unit, first=unit.startswith("hall-backup@"))
 
     def hand_on(self, unit: str, first: bool = False) -> None:
-        """A unit of the old book that is enabled is one of the next; `first` it is run once more."""
+        """A unit of the old book that is enabled is one of the next; `first` it is run once
+        more."""
         old, new = unit.format(self.move.old), unit.format(self.move.new)
         if not self.place.is_unit(old):
             return

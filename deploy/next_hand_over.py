@@ -1,6 +1,6 @@
-"""What `hall-next` does from the moment that the old book's followers end until lanes weigh into the
-next one. Each step may be done twice; where one fails before the next book is served, the old hall is
-begun again."""
+"""What `hall-next` does from the moment that the old book's followers end until lanes weigh into
+the next one. Each step may be done twice; where one fails before the next book is served, the old
+hall is begun again."""
 
 import glob
 import os
@@ -150,7 +150,8 @@ class HandOver:
     # ---- back
 
     def take_back(self) -> None:
-        """The old hall goes on: the next one wasn't begun. Killed in its midst, all is done anew."""
+        """The old hall goes on: the next one wasn't begun. Killed in its midst, all is done
+        anew."""
         move, place = self.move, self.place
         move.keep(done=[])
         self.show_instead(move.new, move.old)

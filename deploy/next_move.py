@@ -1,5 +1,5 @@
-"""The move of a hall from a book to the next: what of it is done stands in a file, so that it may be
-killed at any moment and run again; which book is the next; and the wait for verdicts."""
+"""The move of a hall from a book to the next: what of it is done stands in a file, so that it may
+be killed at any moment and run again; which book is the next; and the wait for verdicts."""
 
 import glob
 import json
@@ -111,8 +111,9 @@ class Waiting:
             time.sleep(POLL_AT_REST if self.count is None else POLL)
 
     def look(self) -> str:
-        """Which batches have no verdict; empty where each has one. Doors know how many. The list has
-        the names, but of a running book not the newest row: it is read where the number changed."""
+        """Which batches have no verdict; empty where each has one. Doors know how many. The list
+        has the names, but of a running book not the newest row: it is read where the number
+        changed."""
         move, count = self.move, self.at_doors()
         if count == 0:
             return ""

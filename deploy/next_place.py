@@ -1,5 +1,5 @@
-"""The machine on which `hall-next` works: its folders, its programs, systemd, and the program `hall`,
-which alone reads and makes books."""
+"""The machine on which `hall-next` works: its folders, its programs, systemd, and the program
+`hall`, which alone reads and makes books."""
 
 import fcntl
 import grp

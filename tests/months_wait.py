@@ -1,5 +1,5 @@
-"""`hall-next --wait`: while batches have no verdict the hall goes on, and what it waits for is told;
-once a desk has closed the last one, the next book is served. For tests/months.py."""
+"""`hall-next --wait`: while batches have no verdict the hall goes on, and what it waits for is
+told; once a desk has closed the last one, the next book is served. For tests/months.py."""
 
 import http.client
 import json
