@@ -1,4 +1,4 @@
-"""Run by bench/archive.sh: FOLDER ROWS BOOKS. A book of so many rows is taken in, its register is
+"""Run by bench/archive.sh: FOLDER ROWS BOOKS KIND. A book of so many rows is taken in, its register is
 printed, and questions are asked over as many books like it. Prints seconds of the clock, and of a
 processor, with what the server of PostgreSQL takes: where others take the machine's these count."""
 
@@ -100,10 +100,10 @@ def sizes(kind: str, url: str, engine: Any) -> int:
 
 
 def main() -> None:
-    folder, rows, books = sys.argv[1], int(sys.argv[2]), int(sys.argv[3])
+    folder, rows, books, kind = sys.argv[1], int(sys.argv[2]), int(sys.argv[3]), sys.argv[4]
     lines = make_book(rows)
-    measure("SQLite", f"sqlite:///{folder}/archive.db", lines, books)
-    os.remove(f"{folder}/archive.db")
+    if kind == "sqlite":
+        return measure("SQLite", f"sqlite:///{folder}/archive.db", lines, books)
     postgres = Postgres(folder)
     try:
         measure("PostgreSQL", postgres.url, lines, books, postgres)

@@ -5,12 +5,13 @@
 #   follow    a hall at work over a book of ROWS: how fast that is caught up with, what the follower
 #             takes of a processor at 140 packs a second, how soon a pack stands in the archive, how
 #             long until it follows again behind a kill, and the witness of such a book verified
-#   books     a book of ROWS is taken in without a hall, and questions are asked over BOOKS of them
+#   sqlite, postgresql    a book of ROWS is taken in without a hall, its register printed, and
+#             questions are asked over BOOKS of them
 #
-# usage: bench/archive.sh [ROWS [BOOKS [PART..]]]    900000, 30 and both parts if they aren't named;
+# usage: bench/archive.sh [ROWS [BOOKS [PART..]]]    900000, 30 and all parts if they aren't named;
 #                                                    HALL names the program
-# needs: root, 10 GB, and of Debian what tests/archive.sh needs. Done in 20 minutes on a machine that
-#        does nothing else: where others take its processors, their seconds count, not the clock's.
+# needs: root, 10 GB, and of Debian what tests/archive.sh needs. Done in 30 minutes on a machine
+#        that does nothing else: where others take its processors, their seconds count.
 set -eu
 cd "$(dirname "$0")/.."
 . tests/need.sh
@@ -18,7 +19,7 @@ need python3 python3-sqlalchemy python3-alembic python3-psycopg2 postgresql-15 i
 rows=${1:-900000} books=${2:-30}
 [ $# -lt 2 ] || shift
 [ $# -eq 0 ] || shift
-[ $# -gt 0 ] || set -- follow books
+[ $# -gt 0 ] || set -- follow sqlite postgresql
 room=$(mktemp -d)
 chmod 755 "$room"
 trap 'rm -rf "$room"' EXIT
@@ -31,8 +32,9 @@ for part; do
             unshare --mount --net --pid --fork --kill-child --mount-proc timeout 3600 sh -c \
                 'ip link set lo up; exec /usr/bin/python3 -B bench/archive_follow.py "$@"' \
                 sh "$hall" "$room/$part" "$rows" ;;
-        books)
-            timeout 7200 /usr/bin/python3 -B bench/archive.py "$room/$part" "$rows" "$books" ;;
+        sqlite | postgresql)
+            timeout 7200 /usr/bin/python3 -B bench/archive.py "$room/$part" "$rows" "$books" \
+                "$part" ;;
         *) echo "archive.sh: no part is $part" >&2; exit 2 ;;
     esac
     rm -rf "${room:?}/$part"

@@ -1,8 +1,8 @@
-"""Run by bench/archive.sh, in a network of its own: PROGRAM FOLDER ROWS. A hall over a book of so many
-rows, whose four lanes weigh 140 packs a second, nobody at its desks, and the archive that follows it:
-how fast it catches up, what it takes of a processor, how long after its gate was told a pack stands
-in the archive, and how long until it follows again behind a kill. Then a witness of the book with a
-fingerprint at each closing is verified."""
+"""Run by bench/archive.sh, in a network of its own: PROGRAM FOLDER ROWS. A hall over a book of so
+many rows, whose four lanes weigh 140 packs a second, nobody at its desks, and the archive that
+follows it: how fast it catches up, what it takes of a processor, how long after its gate was told a
+pack stands in the archive, and how long until it follows again behind a kill. Then a witness of the
+book with a fingerprint at each closing is verified."""
 
 import io
 import os

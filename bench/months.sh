@@ -1,14 +1,14 @@
 #!/bin/sh
-# How fast reports of a month, searches over all books and a PDF are, what 8 halls that deliver to one
-# PostgreSQL take, and how long lanes stand for the next book.
+# How fast reports of a month, searches over all books and a PDF are, what 8 halls that deliver to
+# one PostgreSQL take, and how long lanes stand for the next book.
 #
 #   sqlite, postgresql   a book of ROWS is taken in and summed, 22 books of 8 halls are made of it;
 #                        reports by shift, day and product of 1 and of 8 halls, searches; a PDF
 #   followers            8 sites at 140 rows a second each into one PostgreSQL
 #   next                 a served book of ROWS, each batch closed, is followed by the next
 #
-# usage: bench/months.sh [ROWS [PART..]]     1000000 and all parts if they aren't named; HALL names the
-#                                            program
+# usage: bench/months.sh [ROWS [PART..]]     1000000 and all parts if they aren't named; HALL names
+#                                            the program
 # needs: root, 12 GB, and of Debian what tests/months.sh needs. Done in 20 minutes on a machine that
 #        does nothing else.
 set -eu

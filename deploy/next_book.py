@@ -155,6 +155,13 @@ def moved(text: str, old: str, new: str) -> str:
     return re.sub(rf"(/run/hall/){name}(?=/)", rf"\g<1>{new}", text)
 
 
+def metrics_moved(text: str, old: str, new: str) -> str:
+    """Settings of the numbers of a book: its name, its file, and the folders of its hall."""
+    name = re.escape(old)
+    text = re.sub(rf'(?<=/){name}(?=\.book["\'])', new, moved(text, old, new))
+    return re.sub(rf'(["\']){name}(?=["\'])', rf"\g<1>{new}", text)
+
+
 def archive_moved(text: str, old: str, new: str) -> str:
     """The archive's settings: the old book is at rest, and the next is followed at its door."""
     heads = re.split(r"(?m)^(?=\[)", text)

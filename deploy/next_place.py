@@ -1,12 +1,17 @@
-"""The machine on which `hall-next` works: its folders, its programs, systemd, and the program `hall`,
-which alone reads and makes books."""
+"""The machine on which `hall-next` works: its folders, its programs, systemd, and the program
+`hall`, which alone reads and makes books."""
 
+import fcntl
 import grp
 import http.client
 import os
 import shlex
 import subprocess
 import time
+from collections.abc import Iterator
+from contextlib import contextmanager
+
+from next_book import NAME, Unfit
 
 # Seconds that a door is waited for.
 PATIENCE = 20
@@ -18,15 +23,31 @@ class Failed(Exception):
     """A step failed; the text says how."""
 
 
+@contextmanager
+def alone(path: str) -> Iterator[None]:
+    """Waits until no other `hall-next` has this file or folder; the lock goes with the process."""
+    file = os.open(path, os.O_RDONLY)
+    try:
+        fcntl.flock(file, fcntl.LOCK_EX)
+        yield
+    finally:
+        os.close(file)
+
+
 def sync(path: str) -> None:
     file = os.open(path, os.O_RDONLY)
     os.fsync(file)
     os.close(file)
 
 
-def write(path: str, text: str, mode: int = 0o644) -> None:
-    """Writes a file whole, and synced."""
+def write(path: str, text: str, mode: int = 0o644, like: str = "") -> None:
+    """Writes a file whole, and synced; where a file is named that it is to be like, with that one's
+    mode and owner."""
     with open(f"{path}.new", "w", encoding="utf-8") as file:
+        if like:
+            before = os.stat(like)
+            os.fchown(file.fileno(), before.st_uid, before.st_gid)
+            mode = before.st_mode & 0o777
         os.fchmod(file.fileno(), mode)
         file.write(text)
         file.flush()
@@ -54,6 +75,16 @@ class Place:
         self.has_users = known.get("USERS", "yes") != "no"
         # what the program that was run last said on standard error
         self.beside = ""
+
+    def old_settings(self, name: str) -> str:
+        """The settings of a book that is there; Unfit where there is no such one."""
+        if not NAME.fullmatch(name):
+            raise Unfit(f"{name!r} is no name of a book")
+        env = f"{self.settings}/{name}.env"
+        for path in (f"{self.books}/{name}.book", env):
+            if not os.path.exists(path):
+                raise Unfit(f"there is no {path}")
+        return env
 
     def run(self, words: list[str], given: str = "", env: dict[str, str] | None = None) -> str:
         """What a program prints; Failed where its status isn't 0."""

@@ -176,7 +176,8 @@ def quiet(room: Room, work: Work, checked: Checked) -> str:
 
 
 def killed(room: Room, work: Work, checked: Checked, kills: int, postgres: Any) -> None:
-    """Follower, hall and database are killed in turn while packs come; the front's log is turned."""
+    """Follower, hall and database are killed in turn while packs come; the front's log is
+    turned."""
     chance = random.Random(f"kills {work.seed}")
     turns = [room.follower, work] + ([postgres] if postgres else [])
     work.begin()

@@ -1,5 +1,5 @@
 """The archive's package in a booted Debian, by the commands of docs/OPERATING.md. Run by
-tests/archive_package.sh.
+tests/archive_package.sh; the next book there is that of next_installed.py.
 
 usage: archive_installed.py DEBIAN      a folder with a Debian, which has in /root hall_*.deb,
                                         hall-archive_*.deb, archive_stamps.py and clients.py"""
@@ -10,10 +10,10 @@ import sys
 
 from debian import Debian, need
 from installed import ADDRESSES, PAGE, Served, read_blocks
+from next_installed import handed_over
 
 BOOK, ADDRESS = "2026-12", ADDRESSES[0]
-FOLLOW, STAMP = f"hall-archive-follow@{BOOK}", f"hall-archive-stamp@{BOOK}"
-UNITS = (f"{FOLLOW}.service", "hall-archive.service", f"{STAMP}.service")
+PAGES = "hall-archive.service"
 # What systemd finds exposed at most.
 AIM = 2.0
 LEVEL = re.compile(r"exposure level for (\S+): ([0-9.]+) ")
@@ -35,24 +35,32 @@ def is_active(debian: Debian, *units: str) -> None:
         need(said == "active", f"{unit} is {said}: " + debian.run(f"journalctl -n 20 -u {unit}"))
 
 
-def rows(debian: Debian) -> int:
-    """How many rows of the book the archive has."""
+def follow_of(book: str) -> str:
+    return f"hall-archive-follow@{book}.service"
+
+
+def stamp_of(book: str, kind: str = "service") -> str:
+    return f"hall-archive-stamp@{book}.{kind}"
+
+
+def rows(debian: Debian, book: str) -> int:
+    """How many rows of a book the archive has."""
     said = debian.run(
         'runuser -u hall-archive -- /usr/bin/python3 -c "import sqlite3;'
         " print(sqlite3.connect('/var/lib/hall-archive/archive.db')"
-        ".execute('SELECT upto FROM book').fetchone()[0])\""
+        f".execute('SELECT upto FROM book WHERE name = ?', ('{book}',)).fetchone()[0])\""
     )
     return int(said) if said.strip().isdecimal() else 0
 
 
-def follows(debian: Debian, served: Served) -> None:
+def follows(debian: Debian, served: Served, book: str = BOOK) -> None:
     """What is done at the hall comes into the archive, with its person."""
-    before = rows(debian)
+    before = rows(debian, book)
     row = served.act(
         "anna", ADDRESS, act="tare", product="rice250", day="2026-12-02", tare=10100 + before
     )
-    debian.wait(f"row {row} is followed", lambda: rows(debian) >= row, 30)
-    path = f"/archive/acts?book={BOOK}&person=anna"
+    debian.wait(f"row {row} is followed", lambda: rows(debian, book) >= row, 30)
+    path = f"/archive/acts?book={book}&person=anna"
 
     def is_there() -> bool:
         status, said = served.ask("anna", ADDRESS, path)
@@ -76,16 +84,16 @@ def installed(debian: Debian, served: Served, blocks: dict[str, list[str]]) -> N
     for commands in setup:
         debian.step(commands)
     served.waits_for("anna", ADDRESS, "/archive/books", '"rows"')
-    is_active(debian, *UNITS[:2], "hall-archive-read.socket")
+    is_active(debian, follow_of(BOOK), PAGES, "hall-archive-read.socket")
     follows(debian, served)
     print("archive_package: installed by the commands of OPERATING, and follows", flush=True)
 
 
-def rights(debian: Debian) -> None:
+def rights(debian: Debian, book: str = BOOK) -> None:
     """What the archive's user, and nobody, may not do."""
     for user, command in (
-        ("hall-archive", f"cat /var/lib/hall/{BOOK}.book"),
-        ("hall-archive", f"sh -c 'echo 1 > /run/hall-{BOOK}/cell-1.txt'"),
+        ("hall-archive", f"cat /var/lib/hall/{book}.book"),
+        ("hall-archive", f"sh -c 'echo 1 > /run/hall-{book}/cell-1.txt'"),
         ("hall-archive", "curl -sS -m 5 http://127.0.0.1:8471/summary"),
         ("nobody", "cat /var/lib/hall-archive/archive.db"),
         ("nobody", "curl -sS -m 5 http://127.0.0.1:8490/books"),
@@ -100,16 +108,17 @@ def rights(debian: Debian) -> None:
 
 def faults(debian: Debian, served: Served) -> None:
     """A killed follower begins again; the hall goes on without the archive, and is followed up."""
-    debian.run(f"systemctl kill -s KILL {FOLLOW}", 0)
+    follow = follow_of(BOOK)
+    debian.run(f"systemctl kill -s KILL {follow}", 0)
     debian.wait(
-        "it is begun again", lambda: debian.run(f"systemctl is-active {FOLLOW}") == "active\n"
+        "it is begun again", lambda: debian.run(f"systemctl is-active {follow}") == "active\n"
     )
     follows(debian, served)
-    debian.run(f"systemctl stop {FOLLOW} hall-archive", 0)
+    debian.run(f"systemctl stop {follow} hall-archive", 0)
     need(served.ask("anna", ADDRESS, "/archive/books")[0] == 502, "stopped pages answer")
     row = served.act("anna", ADDRESS, act="product", name="rye", nominal=500000)
     need(served.rows("anna", ADDRESS) == row, "the hall goes on")
-    debian.run(f"systemctl start {FOLLOW} hall-archive", 0)
+    debian.run(f"systemctl start {follow} hall-archive", 0)
     served.waits_for("anna", ADDRESS, "/archive/books", '"rows"')
     follows(debian, served)
     print("archive_package: killed and stopped, the hall goes on, and is followed up", flush=True)
@@ -121,13 +130,13 @@ def texts(debian: Debian) -> None:
     as_hall = f"runuser -u hall -- hall export --book /var/lib/hall/{BOOK}.book"
     as_archive = "runuser -u hall-archive -- hall-archive"
     wanted = debian.run(as_hall, 0)
-    debian.run(f"systemctl stop {FOLLOW}", 0)
+    debian.run(f"systemctl stop {follow_of(BOOK)}", 0)
     taken = debian.run(f"{as_archive} take {BOOK} 2>&1", 0)
     need("sheets are the book's" in taken, f"take says {taken}")
     need(debian.run(f"{as_archive} register {BOOK}", 0) == wanted, "the register is another")
     said = debian.run(f"{as_archive} verify {BOOK} 2>&1", 0)
     need(re.search(r"\d+ lines and [1-9]\d* fingerprints hold", said), f"verify says {said}")
-    debian.run(f"systemctl start hall@{BOOK} {FOLLOW}", 0)
+    debian.run(f"systemctl start hall@{BOOK} {follow_of(BOOK)}", 0)
     print(f"archive_package: register and sheets are the book's; {said.strip()}", flush=True)
 
 
@@ -149,10 +158,11 @@ def stamped(debian: Debian) -> None:
         f" && sed -i 's|^#stamps = .*|stamps = \"{url[0]}\"|; s|^#authority|authority|' {settings}",
         0,
     )
-    debian.run(f"systemctl enable --now {STAMP}.timer", 0)
-    due = debian.run(f"systemctl show -p NextElapseUSecRealtime {STAMP}.timer", 0)
+    timer = stamp_of(BOOK, "timer")
+    debian.run(f"systemctl enable --now {timer}", 0)
+    due = debian.run(f"systemctl show -p NextElapseUSecRealtime {timer}", 0)
     need(" 03:1" in due or " 03:2" in due, f"the timer is due {due}")
-    debian.run(f"systemctl start {STAMP}.service", 0)
+    debian.run(f"systemctl start {stamp_of(BOOK)}", 0)
     files = debian.run(f"ls /var/lib/hall-archive/main.{BOOK}.witness.*.tsr", 0)
     said = debian.run(f"runuser -u hall-archive -- hall-archive verify {BOOK} 2>&1", 0)
     need("1 stamps hold" in said, f"verify says {said}")
@@ -164,14 +174,15 @@ def stamped(debian: Debian) -> None:
 
 def judged(debian: Debian) -> None:
     """What systemd says of the units: nothing, and how exposed each is."""
-    units = [*UNITS, "hall-archive-read.socket", f"{STAMP}.timer"]
-    said = debian.run(f"systemd-analyze verify --man=no {' '.join(units)}", 0)
+    units = [follow_of(BOOK), PAGES, stamp_of(BOOK)]
+    more = ["hall-archive-read.socket", stamp_of(BOOK, "timer")]
+    said = debian.run(f"systemd-analyze verify --man=no {' '.join(units + more)}", 0)
     need(said == "", f"systemd has a word on them: {said}")
     debian.run(
         "cp /lib/systemd/system/hall-archive-read@.service /run/hall-archive-read@1.service", 0
     )
     levels = []
-    for unit in (*UNITS, "--offline=true /run/hall-archive-read@1.service"):
+    for unit in (*units, "--offline=true /run/hall-archive-read@1.service"):
         found = LEVEL.search(debian.run(f"systemd-analyze --no-pager security {unit} | tail -n 2"))
         need(found and float(found[2]) <= AIM, f"{unit} is exposed: {found and found[2]}")
         assert found
@@ -179,28 +190,33 @@ def judged(debian: Debian) -> None:
     print(f"archive_package: exposed {', '.join(levels)}", flush=True)
 
 
-def begun_again(debian: Debian, served: Served) -> None:
+def begun_again(debian: Debian, served: Served, book: str) -> None:
+    """After a start of the machine the book that is served now is followed, and no other."""
     debian.end()
     debian.begin()
     served.waits_for("anna", ADDRESS, "/archive/books", '"rows"')
-    is_active(debian, *UNITS[:2], f"{STAMP}.timer", "nftables.service")
-    follows(debian, served)
-    rights(debian)
+    units = (f"hall@{book}", follow_of(book), PAGES, stamp_of(book, "timer"), "nftables.service")
+    is_active(debian, *units)
+    for unit in (f"hall@{BOOK}", follow_of(BOOK), stamp_of(BOOK, "timer")):
+        need(debian.run(f"systemctl is-active {unit} || true").strip() == "inactive", unit)
+    follows(debian, served, book)
+    rights(debian, book)
     print("archive_package: after a start of the machine all is there again", flush=True)
 
 
-def updated_and_purged(debian: Debian, served: Served) -> None:
+def updated_and_purged(debian: Debian, served: Served, book: str) -> None:
     """Installed again over itself it follows on; purged, what it kept stays."""
-    before = debian.run(f"systemctl show -p MainPID {FOLLOW}", 0)
+    follow = follow_of(book)
+    before = debian.run(f"systemctl show -p MainPID {follow}", 0)
     debian.run("apt-get install -y --reinstall /root/hall-archive_*.deb", 0)
-    need(debian.run(f"systemctl show -p MainPID {FOLLOW}", 0) != before, "the old one follows on")
-    follows(debian, served)
+    need(debian.run(f"systemctl show -p MainPID {follow}", 0) != before, "the old one follows on")
+    follows(debian, served, book)
     debian.run("apt-get purge -y hall-archive", 0)
     places = "/usr/bin/hall-archive /usr/lib/hall-archive /lib/systemd/system/hall-archive*"
     left = debian.run(f"ls -d {places} 2>/dev/null || true")
     need(left == "", f"after a purge there are {left}")
     debian.run("[ -s /var/lib/hall-archive/archive.db ]", 0)
-    said = debian.run(f"systemctl is-active {FOLLOW} hall-archive hall-archive-read.socket || true")
+    said = debian.run(f"systemctl is-active {follow} hall-archive hall-archive-read.socket || true")
     need("\nactive" not in f"\n{said}", f"purged, there is {said}")
     row = served.act("anna", ADDRESS, act="product", name="corn", nominal=500000)
     need(served.rows("anna", ADDRESS) == row, "the hall goes on")
@@ -220,8 +236,10 @@ def main() -> None:
         texts(debian)
         stamped(debian)
         judged(debian)
-        begun_again(debian, served)
-        updated_and_purged(debian, served)
+        book = handed_over(debian, served, BOOK)
+        follows(debian, served, book)
+        begun_again(debian, served, book)
+        updated_and_purged(debian, served, book)
         debian.end()
     except BaseException:
         print(debian.run("systemctl --failed; journalctl -n 60 --no-pager"), file=sys.stderr)

@@ -1,8 +1,10 @@
 #!/bin/sh
-# The package of the archive: made, looked over by lintian, and installed into a booted Debian beside
-# the package of the hall, where the commands of docs/OPERATING.md are run as they stand. A first day
-# is followed there behind the front; services begin, are killed, stopped, and there again after the
-# machine's start; a stamp by the timer's service; what each may not do; systemd's judgement of each.
+# The package of the archive: made, looked over by lintian, and installed into a booted Debian
+# beside the package of the hall, where the commands of docs/OPERATING.md are run as they stand. A
+# first day is followed there behind the front; services begin, are killed, stopped, and there again
+# after the machine's start; a stamp by the timer's service; what each may not do; systemd's
+# judgement of each. hall-next hands all of it over to two more books, is killed and run again; a
+# second machine by ssh stands by.
 #
 # usage: tests/archive_package.sh        HALL names the program
 # needs: root, and of Debian: lintian debootstrap binutils systemd-container mandoc; what is missing
@@ -32,7 +34,7 @@ tools/package-archive "$room" >/dev/null 2>&1
 cmp -s "$package" "$room/first.deb" || fail "made twice, the package differs"
 mandoc -T lint -W warning deploy/archive/*.8 | grep -v 'referenced manual not found' &&
     fail "the man page isn't well made"
-hall=$(tools/package "$room" 2>"$room/log") || { cat "$room/log" >&2; fail "no package of the hall"; }
+hall=$(tools/package "$room" 2>"$room/log") || { cat "$room/log" >&2; fail "no hall's package"; }
 echo "archive_package: $(basename "$package"), $(wc -c <"$package") bytes; lintian has no word"
 
 # ---- a Debian with what the commands there fetch
@@ -42,7 +44,7 @@ inside() { chroot "$debian" env -i PATH=/usr/sbin:/usr/bin:/sbin:/bin HOME=/root
 cp /etc/resolv.conf "$debian/etc/resolv.conf"
 inside sh -c 'apt-get update && apt-get install -y --no-install-recommends --download-only nginx \
     libnginx-mod-http-js nftables adduser openssl python3-sqlalchemy python3-alembic \
-    python3-fastapi python3-uvicorn' >"$room/log" 2>&1 ||
+    python3-fastapi python3-uvicorn openssh-server openssh-client' >"$room/log" 2>&1 ||
     { tail "$room/log" >&2; fail "nothing is fetched"; }
 echo 'APT::Install-Recommends "false";' >"$debian/etc/apt/apt.conf.d/50recommends"
 cp "$package" "$hall" "$debian/root/"

@@ -1,5 +1,5 @@
-"""For tests/archive.py and tests/archive_rest.py: questions that are drawn at random, answered page by
-page, beside the register and the hours of every row, which are looked through one by one."""
+"""For tests/archive.py and tests/archive_rest.py: questions that are drawn at random, answered page
+by page, beside the register and the hours of every row, which are looked through one by one."""
 
 import csv
 import random

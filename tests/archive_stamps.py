@@ -1,7 +1,7 @@
 #!/usr/bin/python3
-"""Stamps of the archive's witness by an authority of this test's own, with Debian's openssl: a line is
-stamped and holds; a line or a stamp that was changed, a stamp of another line or another authority
-are told; without an answer, or with one to another question, nothing is kept.
+"""Stamps of the archive's witness by an authority of this test's own, with Debian's openssl: a line
+is stamped and holds; a line or a stamp that was changed, a stamp of another line or another
+authority are told; without an answer, or with one to another question, nothing is kept.
 
 usage: tests/archive_stamps.py      needs openssl; done in 10 seconds"""
 

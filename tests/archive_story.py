@@ -1,5 +1,6 @@
-"""For tests/archive_rest.py: the story of the batch of docs/INSPECTOR.md, read from the archive alone,
-beside the block that shows it there. Persons, reasons and hours come from lines of a front."""
+"""For tests/archive_rest.py: the story of the batch of docs/INSPECTOR.md, read from the archive
+alone, beside the block that shows it there. Persons, reasons and hours come from lines of a
+front."""
 
 import json
 import os

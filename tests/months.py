@@ -23,6 +23,7 @@ from clients import need  # noqa: E402
 from months_halls import several  # noqa: E402
 from months_next import DOORS, PORT, Halls, days, refused  # noqa: E402
 from months_reckoned import NAMES, Pack, grouped  # noqa: E402
+from months_wait import waits  # noqa: E402
 
 from hall_archive.__main__ import main as archive  # noqa: E402
 
@@ -94,7 +95,10 @@ def chain(program: str, folder: str, books: int, seed: str, database: str) -> st
         days(halls, FIRST)
         while len(names) < books:
             known.refuse(names[-1], chance)
-            names.append(halls.hand_over(names[-1], chance.randint(0, 2), KILLED_WITHIN))
+            if len(names) == 1:
+                names.append(waits(halls, FIRST))
+            else:
+                names.append(halls.hand_over(names[-1], chance.randint(0, 2), KILLED_WITHIN))
             with halls.at_rest(names[-1]):
                 halls.work(names[-1])
         halls.end()

@@ -5,8 +5,8 @@
 # month kept, held and spoiled. Three sites that deliver to one PostgreSQL over lines, one of them
 # cut off for an hour, the database killed meanwhile; a second PostgreSQL answers the same reports.
 #
-# usage: tests/months.sh [BOOKS [SEED [PART..]]]   30 books and the parts sqlite, postgresql, halls if
-#        they aren't named; HALL names the program; PICTURES, a folder, gets the PDF
+# usage: tests/months.sh [BOOKS [SEED [PART..]]]   30 books and the parts sqlite, postgresql, halls
+#        if they aren't named; HALL names the program; PICTURES, a folder, gets the PDF
 # needs: root, and of Debian what is named below; what is missing is installed. Done in 10 minutes,
 #        at most 30; systemd's part is a stand-in (tests/months_control.py).
 set -eu

@@ -3,7 +3,8 @@
 files of a folder; hall@NAME is begun and ended by deploy/start and deploy/stop, hall-archive-
 follow@NAME is the archive's follower. All else is only noted.
 
-usage: months_control.py VERB [--now] [--quiet] UNIT     with ROOM, the folder, in the environment"""
+usage: months_control.py VERB [--now] [--quiet] UNIT     with ROOM, the folder, in the
+       environment"""
 
 import os
 import signal

@@ -34,7 +34,7 @@ from hall_archive.summing import Summing  # noqa: E402
 
 SITES = 3
 ROWS = 9_000
-# Rows of an hour of a site, and ms of UTC of its first row, at 13:15: the late shift begins in between.
+# Rows of an hour of a site, and ms of UTC of its first row, at 13:15: the late shift begins in it.
 AN_HOUR, BEGIN = 7_200, 1_741_007_700_000
 SETTINGS = read_reports({"zone": "UTC", "prices": {"rice250": 1.89, "oats250": 0.99}})
 
@@ -139,7 +139,7 @@ class Site:
         self.summing.look()
 
     def shifts(self) -> Counter[str]:
-        """How many packs each shift weighed, by the clock: early from 6, late from 14, night from 22."""
+        """How many packs each shift weighed: early from 6 o'clock, late from 14, night from 22."""
         found: Counter[str] = Counter()
         for line, came in zip(self.source.lines, self.times, strict=False):
             if "\tweigh " in line:
@@ -221,7 +221,7 @@ def asked(kept: Store, statement: str) -> list[Any]:
 
 
 def parts_of(central: Central) -> None:
-    """Each hall has partitions of its own, and a question of a book reads those of its hall alone."""
+    """Each hall has its own partitions: a question of a book reads those of its hall alone."""
     there = central.book("hall1")
     plan = asked(there, f"EXPLAIN SELECT * FROM pack WHERE book = {there.book} AND row = 5")
     said = "\n".join(line for (line,) in plan)
@@ -229,7 +229,7 @@ def parts_of(central: Central) -> None:
 
 
 def several(folder: str, seed: str) -> str:
-    """Sites at work; one is cut off for an hour of its clock, the central database killed meanwhile."""
+    """Sites at work; one is cut off for an hour of its clock, the database killed meanwhile."""
     chance = random.Random(seed)
     central = Central(folder)
     target = f"{central.server.folder}/.s.PGSQL.5432"

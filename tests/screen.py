@@ -13,6 +13,7 @@ from screen_evidence import run_evidence
 from screen_load import run_load
 from screen_pages import run_boards, run_pages
 from screen_pictures import run_pictures
+from screen_reports import run_reports
 from screen_signs import run_signs
 from screen_sizes import run_sizes
 
@@ -26,6 +27,7 @@ PARTS = {
     "chart": run_chart,
     "changes": run_changes,
     "evidence": run_evidence,
+    "reports": run_reports,
     "pictures": run_pictures,
 }
 

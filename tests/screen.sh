@@ -15,6 +15,8 @@
 #   changes a lane changes its batch by the page, the desk and a typed scan, and is refused one
 #   evidence  evidence is entered, stands on a sheet, and is an alarm when it is overdue; it needs
 #           what tests/archive.sh needs
+#   reports   reports and search over an archive of some days, and batches of old books: what
+#             `pages` looks for; it needs what tests/archive.sh needs
 #   pictures  those of README and OPERATING, small; only where it is asked for, as
 #           tests/screen.sh docs pictures; it needs imagemagick
 #
@@ -40,9 +42,9 @@ fi
 mkdir -p "$pictures"
 pictures=$(realpath "$pictures")
 chmod 755 "$room"
-[ $# -gt 0 ] || set -- day signs pages boards sizes load chart changes evidence
+[ $# -gt 0 ] || set -- day signs pages boards sizes load chart changes evidence reports
 for part; do
-    if [ "$part" = evidence ]; then
+    if [ "$part" = evidence ] || [ "$part" = reports ]; then
         need python3-sqlalchemy python3-alembic python3-fastapi python3-uvicorn
     fi
     mkdir "$room/$part"

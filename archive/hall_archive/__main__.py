@@ -16,8 +16,8 @@ usage: hall-archive [--settings PATH] COMMAND
     read                  answers one question of standard input, for hall-archive-read
     openapi               prints the description of what `serve` answers
     sum BOOK              makes the sums of a book for reports anew from its rows
-    report DAYS [BY]      prints a report by shift, day, week, month, product, lane, hall or book, as
-                          `report 2026-12 shift --form pdf`; DAYS may be 2026-12-01..2026-12-07
+    report DAYS [BY]      prints a report by shift, day, week, month, product, lane, hall or book,
+                          as `report 2026-12 shift --form pdf`; DAYS may be 2026-12-01..2026-12-07
     keep MONTH            keeps books, papers, sheets, witness and evidence of a month in a folder
     verify FOLDER         holds such a folder, without a database or settings
 

@@ -1,5 +1,5 @@
-"""Acts with their persons, reasons and hours, over the books of a hall. The hour of an act of a desk
-is the front's; of each other that of its row."""
+"""Acts with their persons, reasons and hours, over the books of a hall. The hour of an act of a
+desk is the front's; of each other that of its row."""
 
 from typing import Any
 

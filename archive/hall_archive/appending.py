@@ -1,4 +1,5 @@
-"""Files that are only appended to: synced, and whole where the disk is full or a kill cut a line."""
+"""Files that are only appended to: synced, and whole where the disk is full or a kill cut a
+line."""
 
 import errno
 import os

@@ -1,7 +1,7 @@
-"""The appendix to the paper of a closed batch: what the paper leaves out. All rows of the batch and of
-its product's tares with their hours, persons and reasons; packs that were rejected or voided; the
-test in figures; evidence; versions; the fingerprint at the closing and the witness' line. It is text,
-a line for each, as docs/FORMATS.md has it."""
+"""The appendix to the paper of a closed batch: what the paper leaves out. All rows of the batch and
+of its product's tares with their hours, persons and reasons; packs that were rejected or voided;
+the test in figures; evidence; versions; the fingerprint at the closing and the witness' line. It is
+text, a line for each, as docs/FORMATS.md has it."""
 
 import bisect
 import hashlib
@@ -97,7 +97,8 @@ def compose(batch: nets.Batch, facts: Facts, entries: Iterable[Entry], hours: Ho
 
 
 def evidence_line(one: Record) -> str:
-    """A record whole, behind what a reader looks for: what, of what, when, how it ended, by whom."""
+    """A record whole, behind what a reader looks for: what, of what, when, how it ended, by
+    whom."""
     head = f"evidence {one.kind} {one.subject} {utc(one.moment)} {one.result} {quoted(one.person)}"
     return f"{head} {json.dumps(one._asdict(), sort_keys=True)}"
 

@@ -8,6 +8,7 @@ import sys
 import threading
 import time
 from collections.abc import Iterator
+from itertools import islice
 from typing import Any
 
 from hall_archive import checks, nets, stamps, store, witness
@@ -289,17 +290,29 @@ def held_whole(books: Books, number: int, book: str, reader: Reader) -> tuple[st
     """The register and each sheet beside those of the book: what to say, and whether they are the
     same."""
     told = checks.lines_of(reader.ask(book, "export"))
-    sheets = 0
+    report = checks.lines_of(reader.ask(book, "report"))
     try:
         lines = checks.compare_register(books.register(number), told)
-        for sheets, name in enumerate(books.names(number), 1):
-            batch = books.batch(number, name)
-            assert batch
-            checks.compare_sheet(name, nets.sheet(batch), checks.report_of(reader, book, name))
+        sheets = compare_sheets(books, number, report)
     except checks.Differs as fault:
-        checks.read_out(told)
         return str(fault), False
+    finally:
+        checks.read_out(told)
+        checks.read_out(report)
     return f"register of {lines - 1} packs and {sheets} sheets are the book's", True
+
+
+def compare_sheets(books: Books, number: int, report: Iterator[str]) -> int:
+    """Each sheet beside that of the book's report, in order of opening; how many there are."""
+    count = 0
+    for count, name in enumerate(books.names(number), 1):
+        batch = books.batch(number, name)
+        assert batch
+        ours = nets.sheet(batch)
+        checks.compare_sheet(name, ours, "".join(islice(report, ours.count("\n"))))
+    if (more := next(report, "")).startswith("batch "):
+        raise checks.Differs(f"the book has a batch more: {more.rstrip()}")
+    return count
 
 
 def verify(settings: Settings, word: str, _: str) -> int:

@@ -1,6 +1,6 @@
-"""A door of a running hall on 127.0.0.1, as a source of rows: `GET /acts/N` ten times a second, over
-one connection after another. Its answers are as docs/FORMATS.md has them: what else comes is no
-answer of a door."""
+"""A door of a running hall on 127.0.0.1, as a source of rows: `GET /acts/N` ten times a second,
+over one connection after another. Its answers are as docs/FORMATS.md has them: what else comes is
+no answer of a door."""
 
 import re
 import socket

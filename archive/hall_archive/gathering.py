@@ -1,5 +1,5 @@
-"""The command `appendix`: gathers what the appendix to a paper has from the tables, the book's file and
-the witness, writes it beside that with the paper, and has it sealed."""
+"""The command `appendix`: gathers what the appendix to a paper has from the tables, the book's file
+and the witness, writes it beside that with the paper, and has it sealed."""
 
 import hashlib
 import os
@@ -113,7 +113,8 @@ def gather(settings: Settings, book: BookSettings, kept: Store, source: Source) 
 
 
 def audited(reader: Reader, book: str, kept: Store, rows: int) -> str:
-    """The fingerprint of the first rows, which the book's file and the archive have to have alike."""
+    """The fingerprint of the first rows, which the book's file and the archive have to have
+    alike."""
     said = checks.audit_of(reader, book, rows)
     if said.rows < rows:
         raise Unfit(f"the book's file has {said.rows} rows yet, of {rows}: it is in use")

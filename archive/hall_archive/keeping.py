@@ -1,5 +1,6 @@
-"""What a follower keeps of one book: each commit whole, or not at all. It goes past sqlalchemy, over
-one connection that stays open: ten times a second its statements would cost more than the rows."""
+"""What a follower keeps of one book: each commit whole, or not at all. It goes past sqlalchemy,
+over one connection that stays open: ten times a second its statements would cost more than the
+rows."""
 
 import io
 from collections.abc import Callable, Iterator, Sequence
@@ -89,7 +90,8 @@ class Keeper:
             self.add_blocks(cursor, taken)
 
     def add_packs(self, cursor: Any, packs: list[PackRow]) -> None:
-        """Adds weighings, which are most of all rows: each as it is, with the number of the book."""
+        """Adds weighings, which are most of all rows: each as it is, with the number of the
+        book."""
         if not packs:
             return
         if self.is_postgres:

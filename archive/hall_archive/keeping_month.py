@@ -31,7 +31,7 @@ sheets/HALL.BOOK.pdf    the sheets of its batches, and as text
 acts/HALL.BOOK.jsonl    acts with persons, reasons and hours (ms of UTC)
 hours/HALL.BOOK.csv     between which times rows came, up to each row (ms of UTC)
 witness/                lines that say which rows the book had at which time, and their stamps
-evidence/HALL.jsonl     tares, scales, densities, errors of measuring: each chained to the one before
+evidence/HALL.jsonl     tares, scales, densities, errors of measuring: each with the digest of the last
 reports/HALL.csv, .pdf  the month by day
 DIGESTS                 the digest of each file: sha256sum -c DIGESTS
 
@@ -128,7 +128,8 @@ class Kept:
         self.keep_acts()
 
     def keep_rows(self, reader: Reader) -> None:
-        """The rows, beside those that the archive has, so that papers and sheets are of the same."""
+        """The rows, beside those that the archive has, so that papers and sheets are of the
+        same."""
         reader.in_use = False
         shipped = b"".join(reader.ask(self.book.name, "ship"))
         audited = b"".join(reader.ask(self.book.name, "audit")).decode("ascii")

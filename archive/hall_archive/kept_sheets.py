@@ -31,8 +31,8 @@ def page(book: str, sheets: list[str]) -> str:
 
 
 def sheet(book: str, batch: Batch, acts: list[dict[str, Any]], evidence: list[str]) -> str:
-    """The sheet of a batch: what the book says of it, limits, tares, the test with its weights, packs
-    that don't count, and who did what."""
+    """The sheet of a batch: what the book says of it, limits, tares, the test with its weights,
+    packs that don't count, and who did what."""
     limits = batch.limits
     parts = [
         f"<section><h1>{escape(batch.name)} \u00b7 {escape(book)}</h1>",

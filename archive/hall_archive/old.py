@@ -26,7 +26,7 @@ class Old(Books):
         moved = {
             pack: row
             for pack, row in self.ask(
-                "SELECT pack, row FROM move WHERE book = :book AND pack >= :first AND pack <= :last",
+                "SELECT pack, row FROM move WHERE book = :book AND pack BETWEEN :first AND :last",
                 book=book,
                 first=min(batch.packs, default=0),
                 last=max(batch.packs, default=0),

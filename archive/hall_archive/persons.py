@@ -1,5 +1,5 @@
-"""Who acted in a book, in the database: the acts that lines of the front are tied to, the first line
-of each row, and how far the front's log was read."""
+"""Who acted in a book, in the database: the acts that lines of the front are tied to, the first
+line of each row, and how far the front's log was read."""
 
 from typing import Any
 

@@ -3,8 +3,8 @@ never by opening the file.
 
 Where the archive runs as its own user it asks a socket, behind which systemd runs `serve_one` as
 the user hall, apart from all else. A question is one line, `COMMAND BOOK [WORD]`; the answer comes
-in pieces, each behind its length in 4 bytes, and ends with a length of 0, the status (2: in use) and
-why it isn't 0.
+in pieces, each behind its length in 4 bytes, and ends with a length of 0, the status (2: in use)
+and why it isn't 0.
 
 Of a book that is in use, by a hall or by another reader at the same time, the program reads all but
 the newest row, and says so beside its answer."""

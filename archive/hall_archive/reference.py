@@ -1,6 +1,6 @@
 """The reference test of a drawn batch in figures: its plan by Annex II, the defective packs of both
-samples, and mean, standard deviation and limit of the mean check. Masses are in mg; what is shown is
-in the unit of the label, rounded to a thousandth as it is shown and not as it is compared."""
+samples, and mean, standard deviation and limit of the mean check. Masses are in mg; what is shown
+is in the unit of the label, rounded to a thousandth as it is shown and not as it is compared."""
 
 import math
 from fractions import Fraction

@@ -19,6 +19,11 @@ LINE: tuple[str, ...] = (
 )
 LINE += ("money", "nonstandard", "rate", "stops", "stopped", "released", "withheld", "refused")
 CAUSES = ("told_allowance", "told_inadequate", "told_held", "told_full", "stayed")
+# Where the long words of narrow heads may break.
+BREAKS: tuple[str, ...] = ("aus|ge|schleust", "Packun|gen", "ver|schenkt", "Still|stän|de")
+BREAKS += ("frei|ge|ge|ben", "zurück|ge|hal|ten", "ab|ge|lehn|te", "ent|wer|tet", "zäh|len|de")
+BREAKS += ("Vor|gän|ge", "Un|ter|maß", "re|jected", "with|held", "re|leased", "re|fused")
+SOFT_HYPHEN = "\u00ad"
 STYLE = """
 @page { size: A4 landscape; margin: 11mm 10mm 14mm;
   @bottom-right { content: counter(page) " / " counter(pages); font: 8pt sans-serif; }
@@ -36,21 +41,25 @@ table { border-collapse: collapse; width: 100%; }
 th, td { text-align: right; padding: .7mm 1.2mm; border-bottom: .2mm solid #d4d9d9; }
 th { font-size: 7pt; font-weight: bold; vertical-align: bottom; border-bottom: .4mm solid #6b7675; }
 th:first-child, td:first-child, .text { text-align: left; }
+table.batches :is(th, td):not(:nth-child(5), :nth-child(6)) { text-align: left; }
+table.batches :is(th, td):last-child { width: 30%; padding-left: 6mm; }
 small { display: block; font-size: 6pt; font-weight: normal; color: #55605f; }
 table.wide { table-layout: fixed; font-size: 7.5pt; }
-table.wide th { font-size: 6pt; hyphens: auto; overflow-wrap: anywhere; }
+table.wide th { font-size: 6pt; overflow-wrap: anywhere; }
 table.wide :is(th, td):first-child { width: 14%; }
 thead { display: table-header-group; }
 tr { break-inside: avoid; }
 tr.sum td { border-top: .4mm solid #6b7675; font-weight: bold; }
 .over { font-weight: bold; }
 .bad { font-weight: bold; color: #a4161a; }
-.halves { display: flex; gap: 8mm; break-inside: avoid; }
+.halves { display: flex; break-inside: avoid; }
 .halves > * { flex: 1; }
+.halves > :first-child { padding-right: 10mm; }
 .note { color: #8a5a00; }
 svg { width: 100%; }
 """
-WIDE, HIGH, LEFT, BOTTOM = 420, 130, 34, 108
+# The chart of the days: its size, and where its bars begin and end.
+WIDE, HIGH, LEFT, RIGHT, BOTTOM = 420, 130, 34, 408, 108
 
 
 def pdf(html: str) -> bytes:
@@ -166,7 +175,7 @@ class Words:
         top = max(max(one["share"] for one in days), self.report["aim"], 0.1)
         low = min(min(one["share"] for one in days), 0.0)
         scale = (BOTTOM - 10) / (top - low)
-        step = (WIDE - LEFT) / len(days)
+        step = (RIGHT - LEFT) / len(days)
         zero = BOTTOM + low * scale
         bars = "".join(self.bar(one, at, step, zero, scale) for at, one in enumerate(days))
         every = -(-len(days) // 10)
@@ -195,7 +204,7 @@ class Words:
         height = zero - value * scale
         text = self.spell("share", value)
         return (
-            f'<path d="M{LEFT} {height:.1f}H{WIDE}" stroke="#6b7675" stroke-width=".4"/>'
+            f'<path d="M{LEFT} {height:.1f}H{RIGHT}" stroke="#6b7675" stroke-width=".4"/>'
             f'<text x="{LEFT - 4}" y="{height + 3:.1f}" text-anchor="end">{text}</text>'
         )
 
@@ -205,7 +214,7 @@ class Words:
             return ""
         height = zero - aim * scale
         return (
-            f'<path d="M{LEFT} {height:.1f}H{WIDE}" stroke="#16201f" stroke-dasharray="4 3"'
+            f'<path d="M{LEFT} {height:.1f}H{RIGHT}" stroke="#16201f" stroke-dasharray="4 3"'
             ' stroke-width=".7"/>'
         )
 
@@ -213,7 +222,7 @@ class Words:
 
     def lines(self) -> str:
         heads = [f"{self.say(self.report['by'])} <small>{self.say('rows')}</small>"]
-        heads += map(self.say, LINE)
+        heads += [breaking(self.say(name)) for name in LINE]
         body = [self.line(said(one["name"], self.language), one) for one in self.report["lines"]]
         body.append(self.line(said("total", self.language), self.report["total"], "sum"))
         head = self.row("th", heads)
@@ -234,7 +243,7 @@ class Words:
         some = self.say("some", count=len(found)) if len(found) < closed else ""
         note = f'<p class="under">{some}</p>' if some else ""
         title = self.say("batches", closed=closed)
-        return f"<h2>{title}</h2>{note}{self.table(head, body)}"
+        return f"<h2>{title}</h2>{note}{self.table(head, body, 'batches')}"
 
     def batch(self, one: dict[str, Any]) -> str:
         word, *why = one["verdict"].split(" ")
@@ -262,3 +271,10 @@ class Words:
     def table(self, head: str, body: list[str], kind: str = "") -> str:
         top = f"<thead>{head}</thead>" if head else ""
         return f'<table class="{kind}">{top}<tbody>{"".join(body)}</tbody></table>'
+
+
+def breaking(head: str) -> str:
+    """A head whose long words may break."""
+    for word in BREAKS:
+        head = head.replace(word.replace("|", ""), word.replace("|", SOFT_HYPHEN))
+    return head

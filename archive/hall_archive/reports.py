@@ -37,7 +37,8 @@ CLOSED = """
 
 
 class Asked(NamedTuple):
-    """What a report is asked for; what is empty may be anything. Several halls are several names."""
+    """What a report is asked for; what is empty may be anything. Several halls are several
+    names."""
 
     by: str
     period: Period

@@ -1,5 +1,5 @@
-"""Files that are kept whole, and seals: `openssl cms` signs with the hall's own key, and an authority
-stamps the seal where one is configured."""
+"""Files that are kept whole, and seals: `openssl cms` signs with the hall's own key, and an
+authority stamps the seal where one is configured."""
 
 import hashlib
 import os

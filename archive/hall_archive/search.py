@@ -1,6 +1,6 @@
 """What people ask of all the books of a hall beside packs and acts: books, batches, sums, and the
-hour and place of a pack. Masses in mg, times in ms of UTC. Each answer has at most PAGE records; the
-next page is asked behind the last."""
+hour and place of a pack. Masses in mg, times in ms of UTC. Each answer has at most PAGE records;
+the next page is asked behind the last."""
 
 from typing import Any
 

@@ -1,5 +1,5 @@
-"""Which rows of which books a question is about: the books of a hall in turn, by their names, and of
-each the rows whose hours lie in a span of time. A page goes on behind a row of a book."""
+"""Which rows of which books a question is about: the books of a hall in turn, by their names, and
+of each the rows whose hours lie in a span of time. A page goes on behind a row of a book."""
 
 from collections.abc import Iterator
 from typing import NamedTuple

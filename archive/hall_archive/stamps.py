@@ -1,6 +1,6 @@
-"""Stamps of RFC 3161 over lines of a witness: an authority elsewhere says that a line was there at its
-time, and with it all lines before, since each has the digest of the one before. By Debian's openssl;
-a stamp is a file beside the witness, WITNESS.LINE.tsr."""
+"""Stamps of RFC 3161 over lines of a witness: an authority elsewhere says that a line was there at
+its time, and with it all lines before, since each has the digest of the one before. By Debian's
+openssl; a stamp is a file beside the witness, WITNESS.LINE.tsr."""
 
 import glob
 import os

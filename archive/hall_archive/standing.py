@@ -1,9 +1,9 @@
-"""How a book stands, as far as a follower needs it: what runs on each lane, which pack a gate has yet
-to settle, and of each open batch which packs passed. What the book was told stands in its rows and
-isn't judged again.
+"""How a book stands, as far as a follower needs it: what runs on each lane, which pack a gate has
+yet to settle, and of each open batch which packs passed. What the book was told stands in its rows
+and isn't judged again.
 
-A follower that is begun anew reads this from the tables (`Kept`), without the packs: those of rows up
-to `absent` are asked for when an act speaks of them or draws from them."""
+A follower that is begun anew reads this from the tables (`Kept`), without the packs: those of rows
+up to `absent` are asked for when an act speaks of them or draws from them."""
 
 import bisect
 from collections.abc import Iterable

@@ -228,11 +228,6 @@ class Store:
             if not link.execute(select(func.count()).select_from(table).where(*same)).scalar():
                 link.execute(table.insert().values(book=self.book, moment=moment, what=what))
 
-    def analyze(self) -> None:
-        """Counts the tables' rows anew for the planner: a fresh table has no statistics."""
-        with reaching(self.engine.begin) as link:
-            link.execute(text("ANALYZE"))
-
 
 def merged(acts: Iterator[Entry], weighings: Iterator[Entry]) -> Iterator[Entry]:
     """Two lists of entries as one, in order of the rows."""

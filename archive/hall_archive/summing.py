@@ -40,7 +40,9 @@ ADD_OPENING = """
     VALUES (%s, %s, %s, %s, %s, %s, %s, %s)"""
 BEGIN = """
     INSERT INTO summed (book, upto, state) VALUES (%s, 0, '{}') ON CONFLICT (book) DO NOTHING"""
-MOVE_ON = "UPDATE summed SET upto = %s, state = %s, first_day = %s, last_day = %s WHERE book = %s AND upto = %s"
+MOVE_ON = """
+    UPDATE summed SET upto = %s, state = %s, first_day = %s, last_day = %s
+    WHERE book = %s AND upto = %s"""
 FORGET = "DELETE FROM quarter WHERE book = %s AND batch = %s AND day = %s"
 CLEAN = "DELETE FROM quarter WHERE book = %s AND count = 0"
 TABLES = ("quarter", "pace", "closing", "opening", "summed")
@@ -154,7 +156,8 @@ class Rows(Books):
         ]
 
     def summed_days(self, product: str, day: int) -> list[tuple[int, int]]:
-        """The batches of a product with packs on a day or later that are summed, with those days."""
+        """The batches of a product with packs on a day or later that are summed, with those
+        days."""
         found = self.sums.all(
             """SELECT DISTINCT q.batch, q.day FROM quarter q
             JOIN opening o ON o.book = q.book AND o.batch = q.batch

@@ -98,6 +98,17 @@ class Plans(unittest.TestCase):
         self.assertEqual(next_book.setting("LANES=1\nDOORS=3\n", "DOORS", 2), 3)
         self.assertEqual(next_book.setting("LANES=1\n", "DOORS", 2), 2)
 
+    def test_numbers(self) -> None:
+        text = (
+            'book = "2026-12"\nfile = "/var/lib/hall/2026-12.book"\nother = "/x/2026-12b.book"\n'
+            "list = '/run/hall/2026-12/list.txt'\nstatus = ['hall-status', '2026-12']\n"
+        )
+        wanted = (
+            'book = "N"\nfile = "/var/lib/hall/N.book"\nother = "/x/2026-12b.book"\n'
+            "list = '/run/hall/N/list.txt'\nstatus = ['hall-status', 'N']\n"
+        )
+        self.assertEqual(next_book.metrics_moved(text, "2026-12", "N"), wanted)
+
     def test_archive(self) -> None:
         found = next_book.archive_moved(ARCHIVE, "2026-12", "2027-01")
         self.assertTrue(

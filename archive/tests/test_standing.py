@@ -23,7 +23,8 @@ def moves_of(archive: MemoryArchive) -> list[Move]:
 
 
 def two_samples() -> tuple[str, list[int]]:
-    """A book of 120 packs, of which one is voided, with both samples drawn, and its passed packs."""
+    """A book of 120 packs, of which one is voided, with both samples drawn, and its passed
+    packs."""
     lines = DAY.splitlines()
     for row in range(6, 126):
         prior = "none" if row == 6 else "opened"

@@ -1,4 +1,5 @@
-"""Sums of whole blocks of rows, and indexes by signal, by pile, by person and by the clock of an hour."""
+"""Sums of whole blocks of rows, and indexes by signal, by pile, by person and by the clock of an
+hour."""
 
 import sqlalchemy as sa
 from alembic import op

@@ -1,4 +1,5 @@
-"""Indexes of acts by kind, batch and product: of what is rare a question read all acts of each book."""
+"""Indexes of acts by kind, batch and product: of what is rare a question read all acts of each
+book."""
 
 import sqlalchemy as sa
 from alembic import op

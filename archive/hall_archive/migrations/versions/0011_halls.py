@@ -74,7 +74,8 @@ def partition(table: str, key: str) -> None:
     link = op.get_bind()
     found = link.exec_driver_sql(
         f"""SELECT column_name, data_type, is_nullable FROM information_schema.columns
-        WHERE table_name = '{table}' AND table_schema = current_schema() ORDER BY ordinal_position"""
+        WHERE table_name = '{table}' AND table_schema = current_schema()
+        ORDER BY ordinal_position"""
     ).all()
     columns = ", ".join(column(*one) for one in found)
     names = ", ".join(f'"{name}"' for name, _, _ in found)

@@ -1,0 +1,243 @@
+"""How hall-next decides, waits, goes on behind a kill, and takes back what it began: over a machine
+that notes what it is asked."""
+
+import io
+import json
+import os
+import stat
+import sys
+import tempfile
+import unittest
+from contextlib import redirect_stdout
+from unittest.mock import patch
+
+HERE = os.path.dirname(os.path.realpath(__file__))
+sys.path.insert(0, f"{HERE}/../../deploy")
+
+import next_move  # noqa: E402
+from next_after import Afterwards  # noqa: E402
+from next_book import Unfit  # noqa: E402
+from next_hand_over import HandOver  # noqa: E402
+from next_move import Move, StillOpen, Waiting  # noqa: E402
+from next_place import Failed, Place, read, write  # noqa: E402
+
+DAY = "day 2026-12-01\nproduct rice250 nominal 250.000 g tare 10.000\n"
+OPEN = f"{DAY}batch A product rice250 state drawn population 1\n"
+SHA = "ab" * 32
+
+
+def summary(running: int, closed: int) -> str:
+    """As a door says it (docs/FORMATS.md)."""
+    return f"rows 9\nbatches running {running} ended 0 drawn 0 closed {closed}\n"
+
+
+class Machine(Place):
+    """Units that are active and enabled, a book's list, what doors say; and what was asked."""
+
+    def __init__(self, folder: str) -> None:
+        super().__init__({"BOOKS": folder, "SETTINGS": folder, "USERS": "no", "LIB": "/lib"})
+        self.active: set[str] = set()
+        self.enabled: set[str] = set()
+        self.asked: list[str] = []
+        self.lists: list[str] = [DAY]
+        self.doors: list[str] = []
+        self.fails = ""
+
+    def holds(self, *words: str) -> bool:
+        return words[-1] in (self.active if words[0] == "is-active" else self.enabled)
+
+    def control(self, *words: str) -> str:
+        said = " ".join(words)
+        self.asked.append(said)
+        if self.fails and self.fails in said:
+            raise Failed(said)
+        if words[0] in ("start", "stop"):
+            (self.active.add if words[0] == "start" else self.active.discard)(words[1])
+        elif words[0] in ("enable", "disable"):
+            (self.enabled.add if words[0] == "enable" else self.enabled.discard)(words[-1])
+        return ""
+
+    def run(self, words: list[str], given: str = "", env: dict[str, str] | None = None) -> str:
+        self.asked.append(" ".join(words))
+        if self.fails and self.fails in words:
+            raise Failed("it fails")
+        return "1 batch A\n" if words[0] == "/lib/planned" else ""
+
+    def of_hall(self, command: str, path: str, *words: str, given: str = "") -> str:
+        if command == "run":
+            with open(path, "w", encoding="ascii") as file:
+                file.write(given)
+        if command == "audit":
+            return f"rows 9\nsha256 {SHA}\n"
+        return "batch A product rice250 nominal 250.000 g\n" if command == "report" else ""
+
+    def listing(self, path: str) -> str:
+        return self.lists.pop(0) if len(self.lists) > 1 else self.lists[0]
+
+    seen = listing
+
+    def ask(self, port: int) -> str:
+        return self.doors.pop(0) if self.doors else ""
+
+
+class Moves(unittest.TestCase):
+    def setUp(self) -> None:
+        room = tempfile.TemporaryDirectory()
+        self.addCleanup(room.cleanup)
+        self.folder = room.name
+        for name, text in (("a.book", ""), ("a.env", "LANES=1\n"), ("a.toml", "reserve = 4\n")):
+            with open(f"{self.folder}/{name}", "w", encoding="ascii") as file:
+                file.write(text)
+        self.place = Machine(self.folder)
+        self.place.active = {"hall@a", "hall-archive-follow@a"}
+        self.place.enabled = {"hall@a", "hall-archive-follow@a", "hall-day@a.timer"}
+        self.move = self.decided()
+
+    def decided(self, plan: str = "") -> Move:
+        move = Move(self.place, "a")
+        move.decide("", plan)
+        return move
+
+    def there(self, name: str) -> bool:
+        return os.path.exists(f"{self.folder}/{name}")
+
+    def hand_over(self) -> None:
+        closed = OPEN.replace("drawn", "closed")
+        self.place.lists = [closed, closed, DAY]
+        with redirect_stdout(io.StringIO()):
+            HandOver(self.move).run()
+
+    def test_another_book_or_its_plan_that_is_there(self) -> None:
+        self.assertEqual(self.move.new, "a-2")
+        write(f"{self.folder}/a-2.toml", "")
+        with self.assertRaisesRegex(Unfit, "by --plan"):
+            self.decided()
+        self.assertEqual(self.decided(f"{self.folder}/a-2.toml").new, "a-2")
+        write(f"{self.folder}/a-2.book", "")
+        with self.assertRaisesRegex(Unfit, "already"):
+            Move(self.place, "a").decide("a-2", "")
+
+    def test_hands_all_over(self) -> None:
+        self.hand_over()
+        acts = ("day 2026-12-01", "product rice250 250.000", "tare rice250 2026-12-01 10.000")
+        self.assertEqual(read(f"{self.folder}/a-2.book").splitlines(), list(acts))
+        self.assertIn("@164 1 open A rice250", read(f"{self.folder}/a-2.toml"))
+        self.assertIn("reserve = 4", read(f"{self.folder}/a-2.toml"))
+        self.assertEqual(self.place.active, {"hall@a-2"})
+        # followers end before the hall does, and the next one is begun last
+        of_units = [one for one in self.place.asked if one.split()[0] in ("stop", "start")]
+        self.assertEqual(of_units, ["stop hall-archive-follow@a", "stop hall@a", "start hall@a-2"])
+
+    def test_goes_on_behind_a_kill(self) -> None:
+        self.place.fails = "start hall@a-2"
+        with self.assertRaises(Failed):
+            self.hand_over()
+        self.place.fails, self.place.asked = "", []
+        self.move = self.decided()
+        with redirect_stdout(io.StringIO()):
+            HandOver(self.move).run()
+        self.assertNotIn("stop hall@a", self.place.asked)
+        self.assertIn("hall@a-2", self.place.active)
+
+    def test_takes_back(self) -> None:
+        self.place.fails = "/lib/planned"
+        with self.assertRaises(Failed):
+            self.hand_over()
+        HandOver(self.move).take_back()
+        self.assertEqual(self.place.active, {"hall@a", "hall-archive-follow@a"})
+        for name in ("a-2.book", "a-2.env", "a-2.toml"):
+            self.assertFalse(self.there(name), name)
+        self.assertEqual(Move(self.place, "a").done(), [])
+
+    def test_killed_as_it_takes_back_the_hall_is_begun_again(self) -> None:
+        self.place.fails = "/lib/planned"
+        with self.assertRaises(Failed):
+            self.hand_over()
+        self.place.fails = "start hall@a"
+        with self.assertRaises(Failed):
+            HandOver(self.move).take_back()
+        # the hall has ended, and what ran before is known all the same
+        self.place.fails = ""
+        self.move = self.decided()
+        self.hand_over()
+        self.assertEqual(self.place.active, {"hall@a-2"})
+        self.assertEqual(self.move.known["ran"], ["hall-archive-follow@a"])
+
+    def test_each_step_afterwards_is_by_itself(self) -> None:
+        self.hand_over()
+        self.place.fails = "hall-day@a-2.timer"
+        steps = Afterwards(self.move)
+        with redirect_stdout(io.StringIO()), patch("sys.stderr", io.StringIO()) as said:
+            with self.assertRaisesRegex(Failed, "isn't done: keepers"):
+                steps.run()
+        self.assertIn("keepers", said.getvalue())
+        self.assertFalse(steps.is_done())
+        self.assertEqual(os.stat(f"{self.folder}/a.book").st_mode & 0o777, 0o440)
+        self.assertIn(SHA, read(f"{self.folder}/a.audit"))
+        self.place.fails = ""
+        with redirect_stdout(io.StringIO()):
+            steps.run()
+        self.assertTrue(steps.is_done())
+        self.assertIn("hall-day@a-2.timer", self.place.enabled)
+        self.assertNotIn("hall-day@a.timer", self.place.enabled)
+
+    def test_settings_stay_as_secret_as_they_were(self) -> None:
+        path = f"{self.folder}/archive.toml"
+        write(path, '[[book]]\nname = "a"\ndoor = 8475\n', 0o640)
+        self.hand_over()
+        with redirect_stdout(io.StringIO()):
+            Afterwards(self.move).run()
+        self.assertIn('name = "a-2"', read(path))
+        self.assertEqual(stat.S_IMODE(os.stat(path).st_mode), 0o640)
+
+
+class Waits(unittest.TestCase):
+    def setUp(self) -> None:
+        room = tempfile.TemporaryDirectory()
+        self.addCleanup(room.cleanup)
+        self.place = Machine(room.name)
+        write(f"{room.name}/a.env", "PORT=8475\nDOORS=1\n")
+        self.move = Move(self.place, "a")
+
+    def test_refuses_at_once(self) -> None:
+        self.place.doors, self.place.lists = [summary(1, 4)], [OPEN]
+        with self.assertRaisesRegex(StillOpen, "1 batches of a have no verdict: A"):
+            Waiting(self.move).until_closed(False)
+
+    def test_one_of_the_newest_row_has_no_name_yet(self) -> None:
+        self.place.doors = [summary(1, 4)]
+        with self.assertRaisesRegex(StillOpen, "1 batches of a have no verdict$"):
+            Waiting(self.move).until_closed(False)
+
+    def test_waits_for_the_doors_and_reads_the_book_as_the_number_changes(self) -> None:
+        self.place.doors = [summary(2, 0), summary(2, 0), summary(1, 1), summary(0, 2)]
+        self.place.lists = [OPEN, OPEN.replace(" A ", " B "), DAY]
+        out = io.StringIO()
+        with redirect_stdout(out), patch.object(next_move.time, "sleep"):
+            Waiting(self.move).until_closed(True)
+        said = out.getvalue().splitlines()
+        self.assertEqual([line.partition("waits: ")[2] for line in said],
+                         ["2 batches of a have no verdict: A",
+                          "1 batches of a have no verdict: B"])  # fmt: skip
+        self.assertEqual(self.place.lists, [DAY])
+
+    def test_of_a_book_at_rest_its_list_decides(self) -> None:
+        self.place.lists = [OPEN, DAY]
+        out = io.StringIO()
+        with redirect_stdout(out), patch.object(next_move.time, "sleep") as slept:
+            Waiting(self.move).until_closed(True)
+        self.assertEqual([one.args[0] for one in slept.call_args_list], [20.0])
+
+
+class Files(unittest.TestCase):
+    def test_a_file_that_is_like_another(self) -> None:
+        with tempfile.TemporaryDirectory() as folder:
+            write(f"{folder}/one", "1\n", 0o600)
+            write(f"{folder}/two", "2\n", like=f"{folder}/one")
+            self.assertEqual(read(f"{folder}/two"), "2\n")
+            self.assertEqual(stat.S_IMODE(os.stat(f"{folder}/two").st_mode), 0o600)
+            self.assertEqual(json.loads(read(f"{folder}/one")), 1)
+
+
+if __name__ == "__main__":
+    unittest.main()

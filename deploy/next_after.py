@@ -1,0 +1,97 @@
+"""What `hall-next` does once lanes weigh into the next book. Each step is by itself: one that fails
+hinders no other, and is done when it is run again."""
+
+import os
+import shutil
+import sys
+
+import next_book
+from next_move import Move
+from next_place import Failed, read, write
+
+# Units that go with a book, and are moved where they are enabled.
+KEEPERS = ("hall-backup@{}.timer", "hall-day@{}.timer", "hall-metrics@{}.service")
+FOLLOW, STAMP = "hall-archive-follow@{}", "hall-archive-stamp@{}.timer"
+STANDBY = "hall-standby@{}"
+
+
+class Afterwards:
+    """The steps behind the hand-over."""
+
+    def __init__(self, move: Move) -> None:
+        self.move, self.place = move, move.place
+        self.steps = (
+            ("audit", self.audit),
+            ("keepers", self.keepers),
+            ("archive", self.archive),
+            ("standby", self.stand_by),
+        )
+
+    def is_done(self) -> bool:
+        return {name for name, _ in self.steps} <= set(self.move.done())
+
+    def run(self) -> None:
+        """Does each; Failed where one of them isn't done."""
+        left = []
+        for name, work in self.steps:
+            try:
+                self.move.step(name, work)
+            except (Failed, OSError) as fault:
+                print(f"hall-next: {name}: {fault}", file=sys.stderr)
+                left.append(name)
+        if left:
+            raise Failed(f"{self.move.new} is served, and this isn't done: {', '.join(left)}")
+
+    def audit(self) -> None:
+        """The old book is audited, its fingerprint noted beside it, and nobody writes it again."""
+        move, place = self.move, self.place
+        path, note = move.book(move.old), f"{place.books}/{move.old}.audit"
+        said = place.of_hall("audit", path)
+        write(note, said, 0o440)
+        if place.has_users:
+            for one in (path, note):
+                shutil.chown(one, "root", "hall")
+        os.chmod(path, 0o440)
+        move.keep(sha256=said.split("sha256 ")[1].strip())
+
+    def keepers(self) -> None:
+        """Copies, the day's timer and numbers go with the next book. The last copy of the old one
+        is made first, where there are copies."""
+        for unit in KEEPERS:
+            self.hand_on(unit, first=unit.startswith("hall-backup@"))
+
+    def hand_on(self, unit: str, first: bool = False) -> None:
+        """A unit of the old book that is enabled is one of the next; `first` it is run once
+        more."""
+        old, new = unit.format(self.move.old), unit.format(self.move.new)
+        if not self.place.is_unit(old):
+            return
+        if first:
+            self.place.control("start", old.removesuffix(".timer"))
+        self.place.control("enable", "--now", new)
+        self.place.control("disable", "--now", old)
+
+    def archive(self) -> None:
+        """The archive takes the end of the old book, and follows the next one, with its witness."""
+        move, place = self.move, self.place
+        path = f"{place.settings}/archive.toml"
+        if not os.path.exists(path) or f'"{move.old}"' not in read(path):
+            return
+        text = next_book.archive_moved(read(path), move.old, move.new)
+        if text != read(path):
+            write(path, text, like=path)
+        words = [*place.archive, "--settings", path, "take", move.old]
+        place.run(place.as_user("hall-archive", words))
+        self.hand_on(FOLLOW)
+        self.hand_on(STAMP)
+        # it reads its settings as it begins
+        place.control("try-restart", "hall-archive")
+
+    def stand_by(self) -> None:
+        """The second machine gets the end of the old book, and then the next."""
+        move, place = self.move, self.place
+        if not place.is_unit(STANDBY.format(move.old)):
+            return
+        last = [f"{place.lib}/standby", "--last", move.old]
+        place.run(place.as_user("hall", last), env={"BOOKS": place.books})
+        self.hand_on(STANDBY)
