@@ -5,19 +5,19 @@
 import { CODE, addWords, say, word } from "./words.js";
 import { AlarmBar, alarmsOf, isNear, isSoonFull, loudFirst } from "./alarms.js";
 import { Hall } from "./lanes.js";
-import { MOST_PACKS, MOST_ROWS, limitsOf } from "./rules.js";
+import { MOST_PACKS, MOST_ROWS } from "./rules.js";
 import { count, duration, grams, quantity } from "./numbers.js";
-import { icon, loadStyles, make, meter, put, shape, whenSized } from "./page.js";
+import { icon, loadStyles, make, meter, put, shape } from "./page.js";
 import { keepText, readText } from "./store.js";
 import { lanes as askPlan, list as askList } from "./office.js";
 import { addNames } from "./names.js";
 import { evidenceAlarms } from "./evidenceshown.js";
 import { forecastOf } from "./forecast.js";
 import { forecastWords } from "./forecastwords.js";
-import { laneWords, settings } from "./settings.js";
-import { packAt, packs } from "./packs.js";
 import { idleWords } from "./standing.js";
-import { spark } from "./spark.js";
+import { makeLane, putLane } from "./boardlane.js";
+import { packAt, packs } from "./packs.js";
+import { settings } from "./settings.js";
 
 addWords((await import(`./board_${CODE}.js`)).default);
 
@@ -127,28 +127,6 @@ function makeStrip(sheet) {
   return part;
 }
 
-function makeLane(lane, sheet) {
-  const part = { lane, limits: limitsOf(sheet), signal: make("span"), net: make("span"),
-    rate: make("strong"), spark: make("div", { className: "w-spark sized" }), drawn: "",
-    out: make("span", { className: "w-out none" }), outs: make("strong"), cause: make("span") };
-  part.net.className = "w-net";
-  part.out.append(part.outs, part.cause);
-  part.spoken = make("span", { className: "unseen" });
-  part.cell = make("section", { className: "w-lane", "aria-label": laneWords(lane.number) },
-    make("div", {}, part.spoken,
-      make("h3", { className: "w-no", "aria-hidden": "true" }, String(lane.number)), part.signal,
-      part.spark, part.net,
-      make("span", { className: "w-rate" }, part.rate, make("small", {}, ` ${say("aMinute")}`),
-        part.out)));
-  parts.lanes.set(lane.number, part);
-  whenSized(part.spark, (wide, high) => {
-    part.draw = spark(part.spark, part.limits, wide, high);
-    part.drawn = "";
-    putSpark(part, shownOf(part.lane));
-  });
-  return part.cell;
-}
-
 function formOf(batches) {
   if (batches <= 2) return String(batches);
   if (batches <= 4) return "3";
@@ -176,7 +154,10 @@ function buildStrips(shown) {
   const strips = [...shown].map(([batch, lanes]) => {
     const part = makeStrip(hall.sheets.get(batch));
     part.lanes.dataset.cols = columns(form, lanes.length);
-    part.lanes.append(...lanes.map((lane) => makeLane(lane, hall.sheets.get(batch))));
+    for (const lane of lanes) {
+      parts.lanes.set(lane.number, makeLane(lane, hall.sheets.get(batch)));
+      part.lanes.append(parts.lanes.get(lane.number).cell);
+    }
     return part.strip;
   });
   const none = [make("p", { className: "none-yet" }, say("emptyBoard"))];
@@ -253,64 +234,6 @@ function putCountry(part, { used, allowed, isOver }, isPlanned) {
     say("ofAllowed", { used: count(used), allowed: count(allowed) }), used, allowed);
 }
 
-function signalOf(lane, state) {
-  if (state.waits) return [state.idle ? "warn" : "idle", "idle", say("waitsShort")];
-  if (state.idle) return ["warn", "idle", say("idleShort")];
-  if (!lane.batch) return ["idle", "idle", say("idleShort")];
-  const last = packs.get(lane.packs.at(-1));
-  if (!last || state.silence > settings.alarms.silence) {
-    return ["warn", "idle", last ? say("silentShort") : say("idleShort")];
-  }
-  if (last.signal === "pass") return ["", "pass", word("pass")];
-  return [last.signal === "reject held" ? "held" : "reject", "reject", word(last.signal)];
-}
-
-function putSpark(part, shown) {
-  if (!part.draw) return;
-  const now = `${shown.length} ${shown.at(-1)?.number} ${shown[0]?.net} ${shown.at(-1)?.net}`;
-  if (now === part.drawn) return;
-  part.drawn = now;
-  part.draw(shown);
-}
-
-const shownOf = (lane) =>
-  lane.packs.map((number) => packs.get(number)).filter((pack) => pack);
-
-// How many of the packs that are shown were rejected, and why the newest of them: that stays to be
-// seen when a later pack has passed. Gives back the same in a sentence.
-function putOuts(part, shown) {
-  const outs = shown.filter(({ signal }) => signal !== "pass");
-  const all = count(shown.length);
-  part.out.classList.toggle("none", outs.length === 0);
-  put(part.outs, count(outs.length));
-  put(part.cause, outs.length ? word(outs.at(-1).signal) : "");
-  const told = outs.length === 0 ? say("noneOut", { all })
-    : say("outOf", { all, count: count(outs.length), cause: word(outs.at(-1).signal) });
-  if (part.out.title !== told) part.out.title = told;
-  return told;
-}
-
-function putLane(lane) {
-  const part = parts.lanes.get(lane.number);
-  if (!part) return;
-  part.lane = lane;
-  const [state, shown] = [laneState(lane), shownOf(lane)];
-  const [kind, sign, told] = signalOf(lane, state);
-  putKind(part.signal, `w-signal ${kind}`);
-  if (part.signal.dataset.told !== sign + told) {
-    part.signal.replaceChildren(icon(sign), make("span", {}, told));
-  }
-  part.signal.dataset.told = sign + told;
-  const last = packs.get(lane.packs.at(-1));
-  const net = last ? grams(last.net, 1) : "–";
-  put(part.net, last ? `${net} g` : "–");
-  const rate = hall.rateOf(lane);
-  put(part.rate, rate === null ? "–" : count(rate));
-  put(part.spoken, say("spoken", { lane: laneWords(lane.number), batch: state.batch ?? "",
-    signal: told, net, rate: rate === null ? "–" : count(rate), out: putOuts(part, shown) }));
-  putSpark(part, shown);
-}
-
 function putFoot({ left, isSure }, rows) {
   put(place.left, say(isSure ? "rowsLeft" : "rowsAtMost", { left: count(left) }));
   const isLow = left < settings.alarms.rows;
@@ -381,6 +304,13 @@ function paceOf(rows) {
   return isFast ? SELDOM : OFTEN;
 }
 
+function putLanes(states) {
+  for (const state of states) {
+    const [part, lane] = [parts.lanes.get(state.number), hall.lanes.get(state.number)];
+    if (part) putLane(part, lane, state, hall.rateOf(lane));
+  }
+}
+
 async function drawNew() {
   const { rows } = await hall.refresh();
   every = paceOf(rows);
@@ -392,10 +322,10 @@ async function drawNew() {
   buildStrips(shown);
   const views = [...shown.keys()].map((batch) => viewOf(hall.sheets.get(batch)));
   views.forEach(putBatch);
-  [...hall.lanes.values()].forEach(putLane);
+  const lanes = [...hall.lanes.values()].map(laneState);
+  putLanes(lanes);
   const book = leftOf(rows);
   putFoot(book, rows);
-  const lanes = [...hall.lanes.values()].map(laneState);
   const rate = [...hall.lanes.values()].reduce((all, lane) => all + (hall.rateOf(lane) ?? 0), 0);
   const alarms = alarmsOf({ book: { ...book, rate }, batches: views, lanes });
   place.bar.draw(loudFirst([...alarms, ...evidenceAlarms()]), isSounding());
