@@ -133,6 +133,7 @@ PAGES = [
     (f"batch/{LONG}", "#batch svg.figure", "batch long"),
     ("desk", "#desk .task", "desk"), ("desk/RICE-1130-C", "#desk .step.draw", "desk draw"),
     ("desk/RICE-1130-D", "#desk .step.measure", "desk measure"),
+    ("picks/RICE-1130-D", "#picks table", "picks"),
     (f"desk/{LONG}", "#desk .step.held", "desk held"),
     ("sheet/RICE-1130-E", "#sheet .paper", "sheet"),
     (f"sheet/{LONG}", "#sheet .paper", "sheet open"),
@@ -157,12 +158,11 @@ def look_at_modes(room, browser, language, faults):
     """Measuring, the form of an act with a fault, the void of a pack."""
     browser.open("desk")
     browser.find("#my-desk").send_keys("101")
-    browser.open("desk/RICE-1130-D")
-    browser.find(".go-measure").click()
+    browser.open("measure/RICE-1130-D")
     browser.find("#m-gross").send_keys("26,2\n")
     wait_until(lambda: browser.text(".m-far"), "a far weight is asked twice", 60)
     look(browser, "measuring", language, faults, room.pictures)
-    browser.find(".measuring button.second").click()
+    browser.find(".m-leave").click()
     browser.find("#open-product").click()
     browser.find("#act-product [name=nominal]").send_keys("4.9\n")
     look(browser, "act", language, faults, room.pictures)
