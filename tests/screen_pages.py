@@ -10,9 +10,10 @@ from screen_room import Room, good, grams, opening, weighing
 
 SIZES = [(1920, 1080), (1280, 800), (1024, 768), (768, 1024), (390, 844)]
 LANGUAGES = ["en", "de"]
-# Which sizes are looked at in which scheme: over both languages each size stands in light and dark,
-# and each language in each size and each scheme.
-VIEWS = {
+SCHEMES = ["light", "dark"]
+# Of which sizes a picture is taken in which scheme, to be looked at: over both languages each size
+# stands in light and dark, and each language in each size and each scheme.
+PICTURED = {
     "en": {"light": [0, 2, 4], "dark": [1, 3]},
     "de": {"light": [1, 3], "dark": [0, 2, 4]},
 }
@@ -44,13 +45,13 @@ class Faults:
 
 
 def look(browser, name, language, faults, pictures):
-    """The page that is shown, in the sizes and schemes of a language; a picture of each."""
+    """The page that is shown, in each size and scheme; pictures of half of them."""
     with open(CHECKS, encoding="utf-8") as source:
         browser.run(source.read())
-    for scheme, sizes in VIEWS[language].items():
+    for scheme in SCHEMES:
         browser.driver.execute_cdp_cmd("Emulation.setEmulatedMedia", {
             "features": [{"name": "prefers-color-scheme", "value": scheme}]})
-        for width, height in (SIZES[at] for at in sizes):
+        for at, (width, height) in enumerate(SIZES):
             browser.view(width, height)
             # two frames, so that what is drawn by its size is drawn
             browser.driver.execute_async_script(
@@ -58,7 +59,9 @@ def look(browser, name, language, faults, pictures):
             time.sleep(0.15)
             where = f"{name} {language} {width} x {height} {scheme}"
             faults.add(where, browser.run("return hallChecks.all()"))
-            browser.picture(f"{pictures}/{name.replace(' ', '_')}_{language}_{width}_{scheme}.png")
+            if at in PICTURED[language][scheme]:
+                picture = f"{name.replace(' ', '_')}_{language}_{width}_{scheme}"
+                browser.picture(f"{pictures}/{picture}.png")
     browser.view(1280, 800)
 
 
