@@ -178,9 +178,10 @@ def look_at_modes(room, browser, language, faults):
 
 
 def look_at_boards(room, faults):
-    """The board with 1 and 16 lanes, all names of 32 letters."""
-    for lanes in (1, 16):
-        names = [f"{LONG[:-2]}{number:02}" for number in range(lanes)]
+    """The board with 1 and 16 lanes, all names of 32 letters, and with 6 and 10 of usual names:
+    these have forms of their own."""
+    for lanes, stem in ((1, LONG[:-2]), (6, "RICE-1201-"), (10, "SALT-1201-"), (16, LONG[:-2])):
+        names = [f"{stem}{number:02}" for number in range(lanes)]
         lines = opening([LONG_PRODUCT])
         for lane, name in enumerate(names, 1):
             lines += [f"open {name} {LONG_PRODUCT}"]
