@@ -152,8 +152,8 @@ def wrong_waits(top: str) -> Iterable[str]:
 def wrong_numbers(top: str, due: set[int]) -> Iterable[str]:
     """The pages that have other numbers of refusals at which a lane waits."""
     for path, part in (
-        ("docs/FORMATS.md", r"refuses that by ([\d, or]+?) the lane waits"),
-        ("docs/DECISIONS.md", r"refusal's kind\*\* \(([\d, ]+)\)"),
+        ("docs/FORMATS.md", r"refuses\s+that\s+by([\d,\sor]+?)the\s+lane\s+waits"),
+        ("docs/DECISIONS.md", r"refusal's\s+kind\*\*\s+\(([\d,\s]+)\)"),
     ):
         if numbers_in(top, path, part) != due:
             yield f"{path}: a lane waits at the refusals {sorted(due)}"
@@ -172,7 +172,8 @@ def wrongly_kept(top: str, due: dict[int, str]) -> Iterable[str]:
 def starts_of(top: str) -> dict[str, int]:
     """Where each kind of answers is counted, by the constants of `met.rt`: a refusal at its number,
     and each kind after the one before."""
-    questions, refusals = len(wanted_of(top, QUESTION)), max(it.number for it in refusal_rows(top))
+    questions = len(wanted_of(top, QUESTION))
+    refusals = max((it.number for it in refusal_rows(top)), default=0)
     sizes = {"SIGNALS": 4, "VERDICTS": 3, "FAILS": 5, "VIEWS": questions, "REPEATS": 2, "DRAWS": 3}
     starts, at = {}, refusals + 1
     for name, size in sizes.items():
