@@ -175,7 +175,10 @@ OF_QUESTIONS = (
         ),
         (
             Place(
-                "docs/promises/book.md", IN_TICKS, r"for the questions(.*?)\(`takes_memory`", True
+                "docs/promises/book.md",
+                IN_TICKS,
+                r"for\s+the\s+questions(.*?)\(`takes_memory`",
+                True,
             ),
             # (`acts` asks for rows; a shipment is asked by the office alone)
             Place(

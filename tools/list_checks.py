@@ -131,22 +131,32 @@ def kept_by(top: str, name: str) -> str:
     return part_of(top, REFUSAL, rf"^    {name} \{{ (\w+):")
 
 
+def starts_refused(top: str) -> dict[str, int]:
+    """The refusals of a start by its own rules, each with its number."""
+    tests = {*tests_of_acts(top).get("start", [])}
+    return {it.name: it.number for it in refusal_rows(top) if tests & {*it.definitions}}
+
+
 def wrong_waits(top: str) -> Iterable[str]:
     """Where it isn't said of a refusal of a start whether a lane waits then."""
-    tests = {*tests_of_acts(top).get("start", [])}
-    of_start = {it.name: it.number for it in refusal_rows(top) if tests & {*it.definitions}}
+    of_start = starts_refused(top)
     waits = {*re.findall(r"Refusal::(\w+)", part_of(top, COURSE, function("start_refused")))}
     for name in sorted(of_start.keys() ^ (waits | END_A_LANE)):
         yield f"{COURSE}: start_refused, and END_A_LANE of tools/list_checks.py: {name}"
-    numbers = {number for name, number in of_start.items() if name in waits}
-    for path, part in (
-        ("docs/FORMATS.md", r"refuses that by ([\d, or]+?) the lane waits"),
-        ("docs/DECISIONS.md", r"refusal's kind\*\* \(([\d, ]+)\)"),
-    ):
-        if numbers_in(top, path, part) != numbers:
-            yield f"{path}: a lane waits at the refusals {sorted(numbers)}"
-    kept = {number: kept_by(top, name) for name, number in of_start.items() if name in waits}
+    waiting = {name: number for name, number in of_start.items() if name in waits}
+    yield from wrong_numbers(top, {*waiting.values()})
+    kept = {number: kept_by(top, name) for name, number in waiting.items()}
     yield from wrongly_kept(top, {number: field for number, field in kept.items() if field})
+
+
+def wrong_numbers(top: str, due: set[int]) -> Iterable[str]:
+    """The pages that have other numbers of refusals at which a lane waits."""
+    for path, part in (
+        ("docs/FORMATS.md", r"refuses\s+that\s+by([\d,\sor]+?)the\s+lane\s+waits"),
+        ("docs/DECISIONS.md", r"refusal's\s+kind\*\*\s+\(([\d,\s]+)\)"),
+    ):
+        if numbers_in(top, path, part) != due:
+            yield f"{path}: a lane waits at the refusals {sorted(due)}"
 
 
 def wrongly_kept(top: str, due: dict[int, str]) -> Iterable[str]:
@@ -162,7 +172,8 @@ def wrongly_kept(top: str, due: dict[int, str]) -> Iterable[str]:
 def starts_of(top: str) -> dict[str, int]:
     """Where each kind of answers is counted, by the constants of `met.rt`: a refusal at its number,
     and each kind after the one before."""
-    questions, refusals = len(wanted_of(top, QUESTION)), max(it.number for it in refusal_rows(top))
+    questions = len(wanted_of(top, QUESTION))
+    refusals = max((it.number for it in refusal_rows(top)), default=0)
     sizes = {"SIGNALS": 4, "VERDICTS": 3, "FAILS": 5, "VIEWS": questions, "REPEATS": 2, "DRAWS": 3}
     starts, at = {}, refusals + 1
     for name, size in sizes.items():
@@ -171,24 +182,39 @@ def starts_of(top: str) -> dict[str, int]:
     return starts | {"NOWHERE": at}
 
 
-def wrongly_counted(top: str) -> Iterable[str]:
-    """What is wrong with the places of `met.rt` and `plans.rt`."""
-    code, starts = re.sub("//.*", "", read(top, MET)), starts_of(top)
+def wrong_starts(code: str, starts: dict[str, int]) -> Iterable[str]:
+    """The constants of `met.rt` that have another value."""
     for name, at in starts.items():
         if not re.search(rf"const {name}: usize = {at};", code):
             yield f"{MET}: {name} isn't {at}"
-    first, fails, last = starts["SIGNALS"], starts["FAILS"], starts["NOWHERE"]
+
+
+def wrong_places(code: str, starts: dict[str, int]) -> Iterable[str]:
+    """The numbers of `met.rt` that are missing, too much, or stand for two kinds. The parts of a
+    verdict that fail are counted by a sum."""
+    first, last = starts["SIGNALS"], starts["NOWHERE"]
     said = [int(it) for it in re.findall(r"(?<![A-Za-z_\d])\d+", code) if int(it) >= first]
-    by_sum = {*range(fails + 1, starts["VIEWS"])}
-    for at in sorted({*said} ^ ({*range(first, last + 1)} - by_sum)):
-        yield f"{MET}: there is a place too much or too few: {at}"
-    yield from (
-        f"{MET}: {at} stands for two kinds" for at in range(first, last) if said.count(at) > 1
-    )
+    by_sum = {*range(starts["FAILS"] + 1, starts["VIEWS"])}
+    wrong = {*said} ^ ({*range(first, last + 1)} - by_sum)
+    twice = {it for it in said if it < last and said.count(it) > 1}
+    yield from (f"{MET}: there is a place too much or too few: {it}" for it in sorted(wrong))
+    yield from (f"{MET}: {it} stands for two kinds" for it in sorted(twice))
+
+
+def wrong_plans(top: str, starts: dict[str, int]) -> Iterable[str]:
+    """What `plans.rt` has otherwise."""
     second = next((it.number for it in refusal_rows(top) if it.name == "SecondNeeded"), 0)
-    for text in (f"VERDICTS..{fails}]", f"SECOND_NEEDED: usize = {second};"):
+    for text in (f"VERDICTS..{starts['FAILS']}]", f"SECOND_NEEDED: usize = {second};"):
         if text not in read(top, PLANS):
             yield f"{PLANS}: {text} isn't there"
+
+
+def wrongly_counted(top: str) -> Iterable[str]:
+    """What is wrong with the places of `met.rt` and `plans.rt`."""
+    code, starts = re.sub("//.*", "", read(top, MET)), starts_of(top)
+    yield from wrong_starts(code, starts)
+    yield from wrong_places(code, starts)
+    yield from wrong_plans(top, starts)
 
 
 # ---- what the front hands on, and columns
