@@ -38,7 +38,7 @@ CHANGES = 10
 # How often a sender begins anew while the hall stays.
 ANEW = 6
 # How many slow lines are cut, so many at once, and how many weights come over each.
-LINES, AT_ONCE, FEW = 48, 8, 4
+LINES, AT_ONCE, FEW = 48, 8, 3
 
 
 def run_sender(port: int, words: list[str]) -> subprocess.Popen[str]:

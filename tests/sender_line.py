@@ -8,8 +8,8 @@ import time
 
 # How long a line is held back, in seconds, as drawn, and how many of a hundred lines and
 # acknowledgements cut the connection.
-HELD = [0.0, 0.0, 0.1, 0.3, 0.5]
-CUTS = 12
+HELD = [0.2, 0.4, 0.6]
+CUTS = 25
 
 
 def end(link: socket.socket) -> None:
