@@ -80,6 +80,9 @@ def entered(place):
     wait(lambda: "in order" in form.text, "the scale is in order", 30)
     form = place.enter("tare", "P", nominal="250", empties="\n".join(map(spelled, EMPTIES)))
     wait(lambda: "in order" in form.text, "the tare is in order", 30)
+    typed = place.anna.text("#e-tare-empties ~ .hint")
+    # the values are 7 mg apart: s is 7 times the root of 82.5 / 9
+    need(typed.startswith("10 so far: mean 10.03") and "s 0.021 g" in typed, f"typed: {typed}")
     newest = place.anna.text("#evidence table")
     need("Check of a scale" in newest and "anna" in newest, f"the newest: {newest}")
     form.find_element("css selector", "button[type=button]").click()
