@@ -9,8 +9,9 @@ use tcp_door::TcpDoor;
 /// The port of a scale, which standard error is told of.
 type PortDoor = ScaleDoor<TcpDoor<HostRuntime>, HostRuntime>;
 
-/// A cell that hears its scale at a port; what names a batch is bad until its lane expects that. Where somebody asks that the hall end it has ended, once its
-/// port takes no more: the last weight is acknowledged by then.
+/// A cell that hears its scale at a port; what names a batch is bad until its lane expects that.
+/// Where somebody asks that the hall end it has ended, once its port takes no more: the last weight
+/// is acknowledged by then.
 #[derive(Drop)]
 pub struct PortCell {
     // Its port, until the first item is asked for.
