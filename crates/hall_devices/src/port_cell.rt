@@ -66,8 +66,9 @@ impl Cell for PortCell {
     ghost use Rattle.std.specs.Prelude.{None};
     ghost use Rattle.device_facts.specs.Count.{CountsFault};
     ghost use Rattle.device_facts.specs.Frame.{NothingElse};
+    ghost use Rattle.lane_worker.specs.Cells.{told_left};
 
-    ghost left = { λ cell. None };
+    ghost feed = { λ cell. told_left None };
 
     ghost faults = { λ cell. cell.faults };
 
