@@ -1,5 +1,6 @@
 mod DoorBytes
 mod ExchangeLaw
+mod Feeding
 mod Knowing
 mod TakenItems
 mod Turning

@@ -62,10 +62,10 @@ impl<O: Door> Cell for RemoteCell<O> {
     ghost use Rattle.std.specs.Prelude.{◌≡◌, None, IfSome, Ok};
     ghost use Rattle.device_facts.specs.Count.{CountsFault};
     ghost use Rattle.device_facts.specs.Frame.{NothingElse};
-    ghost use Rattle.remote_cell.specs.Told.{port, site, IsSound};
+    ghost use Rattle.remote_cell.specs.Told.{port, site, feed_of, IsSound};
     ghost use Rattle.remote_cell.specs.Heard.{HasHeard};
 
-    ghost left = { λ c. None };
+    ghost feed = { λ c. feed_of (site (port O.Source O.connections O.missed c.door) c.hearing) };
 
     ghost faults = { λ c. c.faults };
 
