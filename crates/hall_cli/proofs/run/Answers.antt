@@ -1,4 +1,4 @@
-use Rattle.std.proofs.Common.{refl, sym}
+use Rattle.std.proofs.Common.{refl}
 use Rattle.hall_cli.proofs.run.Goals as goal
 
 pub returns-clause-called : goal.returns-clause-called

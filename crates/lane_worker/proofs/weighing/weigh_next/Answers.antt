@@ -2,7 +2,7 @@ use Rattle.std.proofs.Common.{ℤ, FitsSigned, refl, rules, sym, subst, w64}
 use Rattle.std.proofs.lemmas.Int.{to_z-of_z}
 use Rattle.lane_worker.specs.declared.types.CellNext.TheVariants as item
 use Rattle.lane_worker.specs.declared.ending.WeighingEnd.TheVariants as ending
-use Rattle.lane_worker.specs.Works.{Site, site}
+use Rattle.lane_worker.specs.Works.{site}
 use Rattle.lane_worker.specs.Steps.{TakesItem}
 use Rattle.lane_worker.proofs.GivenItems.{takes_item, feed_same}
 use Rattle.lane_worker.proofs.WorkSteps.{ends_with, ends_failed}
