@@ -3,6 +3,7 @@ use device_facts::counted_once_more;
 use disk_core::Failed;
 use lane_worker::{Cell, CellNext};
 use remote_cell::RemoteCell;
+use std::marker::Model;
 use stop_file::StopFile;
 use tcp_door::TcpDoor;
 
@@ -22,11 +23,26 @@ pub struct PortCell {
     faults: u64,
 }
 
+impl Model for PortCell {
+    ghost use Rattle.std.specs.Prelude.{option_map};
+    ghost use Rattle.tcp_door.specs.OpenDoors.{OpenDoor};
+    ghost use Rattle.hall_devices.specs.Named.{PortState};
+
+    ghost Value = { PortState };
+
+    ghost view = { λ c. record {
+      awaits = option_map (λ (door : OpenDoor). door.asked_port) c.door;
+      faults = c.faults;
+    } };
+}
+
 impl PortCell {
-    ghost use Rattle.std.specs.Prelude.{◌≡◌};
+    ghost use Rattle.std.specs.Prelude.{◌≡◌, Some};
 
     /// A cell over the port of a scale, which has failed nowhere yet.
-    pub fn new(door: PortDoor, stop: StopFile) -> Self {
+    pub fn new(door: PortDoor, stop: StopFile) -> Self
+        ensures { result ≡ record { awaits = Some door.asked_port; faults = 0 } }
+    {
         PortCell {
             door: Some(door),
             cell: None,

@@ -32,6 +32,7 @@ impl<S: Source, E: Eprint + Drop> ToldLines<S, E> {
         requires unended { S.ended source ≡ false }
         ensures left { cell_left S.left result ≡ option_map (bytes_give 0) (S.left source) }
         ensures faults { result.faults ≡ 0 }
+        ensures reader { result.reader ≡ source }
     {
         ToldLines {
             lines: LineCell::new(KeptSource::new(source)),
