@@ -1,6 +1,5 @@
 mod DoorBytes
 mod ExchangeLaw
-mod Feeding
 mod Knowing
 mod TakenItems
 mod Turning
