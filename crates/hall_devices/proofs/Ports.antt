@@ -13,7 +13,7 @@ at_one_more first number [] door at listens port =
     let same : number + 0 ≡ number = omega arith in
     (listens, port ∙ ap (port_above first) same, tt)
 at_one_more first number (one ∷ doors) door at listens port =
-    let same : number + (1 + length doors) ≡ number + 1 + length doors = omega arith in (
+    let same : number + length (one ∷ doors) ≡ number + 1 + length doors = omega arith in (
       at.0,
       at.1,
       at_one_more first (number + 1) doors door at.2 listens
@@ -33,7 +33,7 @@ lanes_one_more remote folder place [] lane are cell gate =
       tt,
     )
 lanes_one_more remote folder place (one ∷ lanes) lane are cell gate =
-    let same : place + (1 + length lanes) ≡ place + 1 + length lanes = omega arith in (
+    let same : place + length (one ∷ lanes) ≡ place + 1 + length lanes = omega arith in (
       are.0,
       are.1,
       lanes_one_more remote folder (place + 1) lanes lane are.2

@@ -5,5 +5,5 @@ use Rattle.hall_devices.proofs.lanes.open_lanes.Given as goal
 abbrev pub invariant-loop-place : goal.invariant-loop-place
 invariant-loop-place l = record {
   count : length l.lanes.items ≡ l.place;
-  named : AreLanesOf l.fn.wanted.now.remote (folder_of l.fn.wanted.now.cells) 0 l.lanes.items;
+  named : AreLanesOf l.fn.wanted.remote (folder_of l.fn.wanted.cells) 0 l.lanes.items;
 }
