@@ -4,8 +4,9 @@
 //! listens at a port.
 //!
 //! Promised: there are as many lanes and doors as the words ask for, each at most 16; a disk that is
-//! open is the file of the path that the words have, or of memory without one; each door listens at
-//! its port. What disks, cells, gates and doors do is promised by the crates that they stand in.
+//! open is asked for by the path that the words have, or is memory without one, each lane by its files
+//! or its port, each door by its port. What disks, cells, gates and doors do is promised by the crates
+//! that they stand in.
 #![tactic(auto)]
 
 mod disk;
