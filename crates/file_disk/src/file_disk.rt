@@ -23,6 +23,8 @@ use std::rt::Files;
 pub struct FileDisk<R: Eprint + Drop> {
     rt: R,
     backing: Result<Backing, OpenError>,
+    // The path that its file was asked for by; none of a book in memory.
+    path: Option<String>,
     notice: Option<Notice>,
     rows_left: RowsLeft,
     told: bool,
@@ -35,6 +37,7 @@ impl<R: Eprint + Drop> Drop for FileDisk<R> {
         let Self {
             rt: _,
             backing: _,
+            path: _,
             notice: _,
             rows_left: _,
             told: _,
@@ -44,25 +47,32 @@ impl<R: Eprint + Drop> Drop for FileDisk<R> {
 }
 
 impl<R: Eprint + Drop> Model for FileDisk<R> {
-    ghost use Rattle.std.specs.Prelude.{is_ok};
+    ghost use Rattle.std.specs.Prelude.{is_ok, option_map};
+    ghost use Rattle.std.specs.String.{string_bytes};
     ghost use Rattle.file_disk.specs.OpenFile.{OpenFile};
 
     ghost Value = { OpenFile };
 
-    ghost view = { λ d. record { is_open = is_ok d.backing; faults = d.faults } };
+    ghost view = { λ d. record {
+      is_open = is_ok d.backing;
+      path = option_map string_bytes d.path;
+      faults = d.faults;
+    } };
 }
 
 impl<R: Eprint + Drop> FileDisk<R> {
-    ghost use Rattle.std.specs.Prelude.{◌≡◌, ◌↔◌, true, false, IsNone, IsOk, IsErr, Ok};
+    ghost use Rattle.std.specs.Prelude.{◌≡◌, ◌↔◌, true, false, IsNone, IsOk, IsErr, None, Ok};
 
     /// Over memory.
     pub fn in_memory(rt: R, disk: QuietDisk) -> Self
         ensures open { result.is_open ≡ true }
+        ensures unnamed { result.path ≡ None }
         ensures faults { result.faults ≡ 0 }
     {
         FileDisk {
             rt,
             backing: Ok(Backing::Memory(disk)),
+            path: None,
             notice: None,
             rows_left: RowsLeft::untold(),
             told: false,
@@ -104,6 +114,7 @@ impl<R: Eprint + Drop> FileDisk<R> {
         ensures value { (value : T) → result ≡ Ok value → done ≡ Ok value }
         ensures failed { IsErr done → IsErr result }
         ensures kept { self.new.is_open ≡ self.old.is_open }
+        ensures named { self.new.path ≡ self.old.path }
         ensures cause { CountsFault self.old.faults self.new.faults result }
     {
         match done {
@@ -121,7 +132,7 @@ impl<R: Eprint + Drop> FileDisk<R> {
 }
 
 impl<R: Files<File = File> + AllocGlobal + Eprint + Drop> FileDisk<R> {
-    ghost use Rattle.std.specs.Prelude.{◌≡◌};
+    ghost use Rattle.std.specs.Prelude.{◌≡◌, true, Some};
 
     /// Opens the book at this path for writing, and makes its file where there is none. The file
     /// stays locked for as long as the disk is there, so no other hall writes it. Where it is
@@ -131,7 +142,8 @@ impl<R: Files<File = File> + AllocGlobal + Eprint + Drop> FileDisk<R> {
     /// gives a disk that isn't open. Nothing is cut off a file but the zeros that a hall wrote ahead
     /// of its rows, at most 64 KB, and left there as it was killed.
     pub fn open(rt: R, path: &str) -> Self
-        ensures { result.faults ≡ 0 }
+        ensures faults { result.faults ≡ 0 }
+        ensures named { result.is_open ≡ true → result.path ≡ Some path.now }
     {
         let mut notice = None;
         let file = match open_present(&rt, path) {
@@ -143,7 +155,7 @@ impl<R: Files<File = File> + AllocGlobal + Eprint + Drop> FileDisk<R> {
             Err(error) => Err(error),
         };
         let backing = named(&rt, path, file);
-        Self::over(rt, backing, notice)
+        Self::over(rt, path, backing, notice)
     }
 
     /// Opens the book at this path for a command that adds nothing. No file is made: where there is
@@ -151,31 +163,39 @@ impl<R: Files<File = File> + AllocGlobal + Eprint + Drop> FileDisk<R> {
     /// read into memory; otherwise the disk is as by `open`, and its slots aren't compared with a
     /// snapshot; the zeros behind its rows stay there and don't count.
     pub fn open_to_read(rt: R, path: &str) -> Self
-        ensures { result.faults ≡ 0 }
+        ensures faults { result.faults ≡ 0 }
+        ensures named { result.is_open ≡ true → result.path ≡ Some path.now }
     {
         match open_present(&rt, path) {
             Err(OpenError::Held) => {
                 let copied = copy_book(&rt, path);
-                Self::over_copy(rt, copied)
+                Self::over_copy(rt, path, copied)
             }
             Err(error) if is_unwritable(&error) => {
                 let copied = copy_book(&rt, path);
-                Self::over_copy(rt, copied)
+                Self::over_copy(rt, path, copied)
             }
             found => {
                 let backing = named(&rt, path, found);
-                Self::over(rt, backing, None)
+                Self::over(rt, path, backing, None)
             }
         }
     }
 
-    // A disk that is open on this, or isn't.
-    fn over(rt: R, backing: Result<Backing, OpenError>, notice: Option<Notice>) -> Self
-        ensures { result.faults ≡ 0 }
+    // A disk that was asked for by this path and is open on this, or isn't; nor is it where there is
+    // no memory for the path.
+    fn over(rt: R, path: &str, backing: Result<Backing, OpenError>, notice: Option<Notice>) -> Self
+        ensures faults { result.faults ≡ 0 }
+        ensures named { result.is_open ≡ true → result.path ≡ Some path.now }
     {
+        let (path, backing) = match String::from_str(rt.alloc(), path) {
+            Ok(path) => (Some(path), backing),
+            Err(error) => (None, Err(error.into())),
+        };
         FileDisk {
             rt,
             told: backing.is_err(),
+            path,
             notice,
             rows_left: RowsLeft::untold(),
             backing,
@@ -183,13 +203,17 @@ impl<R: Files<File = File> + AllocGlobal + Eprint + Drop> FileDisk<R> {
         }
     }
 
-    // A disk in memory, or none.
-    fn over_copy(rt: R, copied: Result<BookCopy, OpenError>) -> Self
-        ensures { result.faults ≡ 0 }
+    // A disk in memory of what the file at this path holds, or none.
+    fn over_copy(rt: R, path: &str, copied: Result<BookCopy, OpenError>) -> Self
+        ensures faults { result.faults ≡ 0 }
+        ensures named { result.is_open ≡ true → result.path ≡ Some path.now }
     {
         match copied {
-            Ok(copied) => Self::over(rt, Ok(Backing::Memory(copied.disk)), Some(copied.notice)),
-            Err(error) => Self::over(rt, Err(error), None),
+            Ok(copied) => {
+                let backing = Ok(Backing::Memory(copied.disk));
+                Self::over(rt, path, backing, Some(copied.notice))
+            }
+            Err(error) => Self::over(rt, path, Err(error), None),
         }
     }
 }
@@ -242,6 +266,7 @@ impl<R: Files<File = File> + AllocGlobal + Eprint + Drop> Disk for FileDisk<R> {
     fn len(&mut self) -> Result<u64, Failed>
         ensures closed { self.old.is_open ≡ false → IsErr result }
         ensures kept { self.new.is_open ≡ self.old.is_open }
+        ensures named { self.new.path ≡ self.old.path }
         ensures cause { CountsFault self.old.faults self.new.faults result }
     {
         let length = match &mut self.backing {
@@ -255,6 +280,7 @@ impl<R: Files<File = File> + AllocGlobal + Eprint + Drop> Disk for FileDisk<R> {
         ensures closed { self.old.is_open ≡ false → IsErr result }
         ensures bound { IfOk result (λ count. count ≤ length into.new) }
         ensures kept { self.new.is_open ≡ self.old.is_open }
+        ensures named { self.new.path ≡ self.old.path }
         ensures cause { CountsFault self.old.faults self.new.faults result }
     {
         let count = match &mut self.backing {
@@ -268,6 +294,7 @@ impl<R: Files<File = File> + AllocGlobal + Eprint + Drop> Disk for FileDisk<R> {
         requires { place + length bytes.now < DISK_END }
         ensures closed { self.old.is_open ≡ false → IsErr result }
         ensures kept { self.new.is_open ≡ self.old.is_open }
+        ensures named { self.new.path ≡ self.old.path }
         ensures cause { CountsFault self.old.faults self.new.faults result }
     {
         let done = match &mut self.backing {
@@ -283,6 +310,7 @@ impl<R: Files<File = File> + AllocGlobal + Eprint + Drop> Disk for FileDisk<R> {
     fn sync(&mut self) -> Result<(), Failed>
         ensures closed { self.old.is_open ≡ false → IsErr result }
         ensures kept { self.new.is_open ≡ self.old.is_open }
+        ensures named { self.new.path ≡ self.old.path }
         ensures cause { CountsFault self.old.faults self.new.faults result }
     {
         let done = match &mut self.backing {

@@ -2,10 +2,13 @@
 //! the words ask for.
 #![tactic(auto)]
 
-ghost use Rattle.std.specs.Prelude.{◌≡◌, ◌↔◌, ◌≤◌, false, None, length};
+ghost use Rattle.std.specs.Prelude.{◌≡◌, ◌↔◌, ◌≤◌, false, None, length, IsErr, IfOk};
 ghost use Rattle.std.specs.Process.{exit_status};
 ghost use Rattle.hall_limits.specs.declared.TheConstants.{MAX_LANE, MAX_DOOR};
 ghost use Rattle.command_line.specs.Words.{bytes_of, wanted_of};
+ghost use Rattle.text_streams.specs.Streams.{output_at};
+ghost use Rattle.call_endings.specs.Endings.{LacksMemory};
+ghost use Rattle.hall_cli.specs.Called.{HasCalled};
 
 use bad_lines::{KeptInput, KeptOutput, WatchedPlan, explain, explain_words};
 use command_line::{Input, Wants, WantsError, needs_of, wants, words};
@@ -56,6 +59,9 @@ fn run<
     requires few_doors { length doors.items ≤ MAX_DOOR }
     requires unended { S.ended input.old ≡ false }
     ensures words { (exit_status result ≡ 2) ↔ (wanted_of (bytes_of words.now) ≡ None) }
+    ensures called { HasCalled S.Source K.Sink D.Disk L.Cell L.Gate O.Source O.Door.own
+        (bytes_of words.now) input.old input.new output.old output.new disk lanes doors
+        (exit_status result) }
 {
     let ended = hall(
         rt,
@@ -94,6 +100,12 @@ fn over_book<
     requires few { length lanes.items ≤ MAX_LANE }
     requires few_doors { length doors.items ≤ MAX_DOOR }
     requires unended { S.ended input.old ≡ false }
+    ensures called { IfOk opened (λ disk. HasCalled S.Source K.Sink D.Disk L.Cell L.Gate O.Source
+        O.Door.own (bytes_of words.now) input.old input.new output.old output.new disk lanes doors
+        (exit_status result)) }
+    ensures no_memory { IsErr opened → LacksMemory (output_at K.Sink output.old)
+        (output_at K.Sink output.new) (exit_status result) }
+    ensures unread { IsErr opened → input.new ≡ input.old }
 {
     match opened {
         Ok(disk) => run(rt, words, input, output, notices, disk, lanes, doors),

@@ -1,3 +1,6 @@
+ghost use Rattle.std.specs.Prelude.{◌≡◌, Some, IfOk};
+ghost use Rattle.hall_devices.specs.Named.{IsBookOf};
+
 use book_snapshot::ROW_BYTES;
 use command_line::{BookUse, Command, Wants, needs_of};
 use disk_core::QuietDisk;
@@ -41,7 +44,9 @@ fn open_book(
     command: Command,
     path: &str,
     at_terminal: bool,
-) -> FileDisk<HostRuntime> {
+) -> FileDisk<HostRuntime>
+    ensures { IsBookOf (Some path.now) result }
+{
     let disk = if reads_alone(command) {
         FileDisk::open_to_read(rt, path)
     } else {
@@ -67,7 +72,9 @@ fn lacks_memory(disk: &FileDisk<HostRuntime>) -> bool {
 }
 
 // A disk that tells how many rows are left while lanes and doors are at work at once.
-fn with_rows_left(disk: FileDisk<HostRuntime>, wanted: &Wants) -> FileDisk<HostRuntime> {
+fn with_rows_left(disk: FileDisk<HostRuntime>, wanted: &Wants) -> FileDisk<HostRuntime>
+    ensures { result ≡ disk }
+{
     let mut disk = disk;
     if wanted.command == Command::Serve {
         disk.tell_rows_left(wanted.limit);
@@ -86,7 +93,9 @@ pub fn open_disk(
     rt: HostRuntime,
     wanted: &Wants,
     at_terminal: bool,
-) -> Result<FileDisk<HostRuntime>, AllocError> {
+) -> Result<FileDisk<HostRuntime>, AllocError>
+    ensures named { IfOk result (λ disk. IsBookOf wanted.now.book disk) }
+{
     let Some(path) = &wanted.book else {
         if reads_alone(wanted.command) {
             let _ = eprintln!(rt; "hall: without --book this is of an empty book");

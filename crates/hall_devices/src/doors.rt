@@ -1,5 +1,6 @@
 ghost use Rattle.std.specs.Prelude.{◌≡◌, length, min, IfOk};
 ghost use Rattle.hall_limits.specs.declared.TheConstants.{MAX_DOOR};
+ghost use Rattle.hall_devices.specs.Named.{AreAtPorts};
 
 use crate::unopened::Unopened;
 use command_line::Wants;
@@ -15,7 +16,9 @@ pub(crate) fn open_door(
     connections: u32,
     manners: Manners,
     stop: StopFile,
-) -> TcpDoor<HostRuntime> {
+) -> TcpDoor<HostRuntime>
+    ensures { result.asked_port ≡ port }
+{
     let door = TcpDoor::listen(rt.alloc(), rt, port, connections, manners, stop);
     if let Some(error) = door.listen_error() {
         let _ = eprintln!(rt; "hall: can't listen at port {port}: {error}");
@@ -34,7 +37,8 @@ pub fn open_doors(
     wanted: &Wants,
     stop: &StopFile,
 ) -> Result<Vec<TcpDoor<HostRuntime>>, Unopened>
-    ensures { IfOk result (λ doors. length doors.items ≡ min wanted.now.doors MAX_DOOR) }
+    ensures count { IfOk result (λ doors. length doors.items ≡ min wanted.now.doors MAX_DOOR) }
+    ensures ports { IfOk result (λ doors. AreAtPorts wanted.now.port 0 doors.items) }
 {
     let count = wanted.doors.min(MAX_DOOR);
     let mut doors = Vec::with_capacity(rt.alloc(), usize::from(count))?;

@@ -1,5 +1,7 @@
-ghost use Rattle.std.specs.Prelude.{◌≡◌, length, min, IfOk, IsSome};
+ghost use Rattle.std.specs.Prelude.{◌≡◌, ◌+◌, ◌<◌, length, min, IfOk, IsSome};
 ghost use Rattle.hall_limits.specs.declared.TheConstants.{MAX_LANE};
+ghost use Rattle.lane_files.specs.LateFile.{gate_path};
+ghost use Rattle.hall_devices.specs.Named.{folder_of, IsCellOf, AreLanesOf};
 
 use crate::doors::open_door;
 use crate::port_cell::PortCell;
@@ -32,7 +34,11 @@ fn open_cell<'a>(
     wanted: &Wants,
     stop: &StopFile,
     place: u8,
-) -> Result<HallCell<'a>, Unopened> {
+) -> Result<HallCell<'a>, Unopened>
+    requires { place < MAX_LANE }
+    ensures named { IfOk result (λ cell.
+        IsCellOf wanted.now.remote (folder_of wanted.now.cells) place cell) }
+{
     let at_door = stop.again(rt.alloc())?;
     let stop = stop.again(rt.alloc())?;
     let Some(first) = wanted.remote else {
@@ -51,7 +57,9 @@ fn open_cell<'a>(
 }
 
 // The folder of the lanes' files.
-fn folder_of(wanted: &Wants) -> &str {
+fn folder_of(wanted: &Wants) -> &str
+    ensures { result.now ≡ folder_of wanted.now.cells }
+{
     match &wanted.cells {
         Some(path) => path.as_str(),
         None => ".",
@@ -94,7 +102,13 @@ fn open_lane<'a>(
     wanted: &Wants,
     stop: &StopFile,
     place: u8,
-) -> Result<HallLane<'a>, Unopened> {
+) -> Result<HallLane<'a>, Unopened>
+    requires { place < MAX_LANE }
+    ensures cell { IfOk result (λ lane.
+        IsCellOf wanted.now.remote (folder_of wanted.now.cells) place lane.cell) }
+    ensures gate { IfOk result (λ lane. lane.gate.writer.writer.path
+        ≡ gate_path (folder_of wanted.now.cells) (place + 1)) }
+{
     let cell = open_cell(rt, wanted, stop, place)?;
     let number = place.saturating_add(1);
     let stop = stop.again(rt.alloc())?;
@@ -113,7 +127,9 @@ pub fn open_lanes<'a>(
     wanted: &Wants,
     stop: &StopFile,
 ) -> Result<Vec<HallLane<'a>>, Unopened>
-    ensures { IfOk result (λ lanes. length lanes.items ≡ min wanted.now.lanes MAX_LANE) }
+    ensures count { IfOk result (λ lanes. length lanes.items ≡ min wanted.now.lanes MAX_LANE) }
+    ensures named { IfOk result (λ lanes.
+        AreLanesOf wanted.now.remote (folder_of wanted.now.cells) 0 lanes.items) }
 {
     let count = wanted.lanes.min(MAX_LANE);
     let mut lanes = Vec::with_capacity(rt.alloc(), usize::from(count))?;

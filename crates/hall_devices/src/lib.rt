@@ -3,8 +3,10 @@
 //! the lanes' folder or hears its scale at a port, each gate is a file of the folder, and each door
 //! listens at a port.
 //!
-//! Promised: there are as many lanes and doors as the words ask for, each at most 16. What disks,
-//! cells, gates and doors do is promised by the crates that they stand in.
+//! Promised: there are as many lanes and doors as the words ask for, each at most 16; a disk that is
+//! open is asked for by the path that the words have, or is memory without one, each lane by its files
+//! or its port, each door by its port. What disks, cells, gates and doors do is promised by the crates
+//! that they stand in.
 #![tactic(auto)]
 
 mod disk;

@@ -3,14 +3,16 @@ use device_facts::counted_once_more;
 use disk_core::Failed;
 use lane_worker::{Cell, CellNext};
 use remote_cell::RemoteCell;
+use std::marker::Model;
 use stop_file::StopFile;
 use tcp_door::TcpDoor;
 
 /// The port of a scale, which standard error is told of.
 type PortDoor = ScaleDoor<TcpDoor<HostRuntime>, HostRuntime>;
 
-/// A cell that hears its scale at a port; what names a batch is bad until its lane expects that. Where somebody asks that the hall end it has ended, once its
-/// port takes no more: the last weight is acknowledged by then.
+/// A cell that hears its scale at a port; what names a batch is bad until its lane expects that.
+/// Where somebody asks that the hall end it has ended, once its port takes no more: the last weight
+/// is acknowledged by then.
 #[derive(Drop)]
 pub struct PortCell {
     // Its port, until the first item is asked for.
@@ -21,11 +23,26 @@ pub struct PortCell {
     faults: u64,
 }
 
+impl Model for PortCell {
+    ghost use Rattle.std.specs.Prelude.{option_map};
+    ghost use Rattle.tcp_door.specs.OpenDoors.{OpenDoor};
+    ghost use Rattle.hall_devices.specs.Named.{PortState};
+
+    ghost Value = { PortState };
+
+    ghost view = { λ c. record {
+      awaits = option_map (λ (door : OpenDoor). door.asked_port) c.door;
+      faults = c.faults;
+    } };
+}
+
 impl PortCell {
-    ghost use Rattle.std.specs.Prelude.{◌≡◌};
+    ghost use Rattle.std.specs.Prelude.{◌≡◌, Some};
 
     /// A cell over the port of a scale, which has failed nowhere yet.
-    pub fn new(door: PortDoor, stop: StopFile) -> Self {
+    pub fn new(door: PortDoor, stop: StopFile) -> Self
+        ensures { result ≡ record { awaits = Some door.asked_port; faults = 0 } }
+    {
         PortCell {
             door: Some(door),
             cell: None,
@@ -65,8 +82,9 @@ impl Cell for PortCell {
     ghost use Rattle.std.specs.Prelude.{None};
     ghost use Rattle.device_facts.specs.Count.{CountsFault};
     ghost use Rattle.device_facts.specs.Frame.{NothingElse};
+    ghost use Rattle.lane_worker.specs.Cells.{told_left};
 
-    ghost left = { λ cell. None };
+    ghost feed = { λ cell. told_left None };
 
     ghost faults = { λ cell. cell.faults };
 

@@ -53,8 +53,9 @@ pub struct MeetingCell<'a> {
 impl<'a> Cell for MeetingCell<'a> {
     ghost use Rattle.std.specs.Prelude.{None};
     ghost use Rattle.device_facts.specs.Frame.{NothingElse};
+    ghost use Rattle.lane_worker.specs.Cells.{told_left};
 
-    ghost left = { λ _. None };
+    ghost feed = { λ _. told_left None };
 
     ghost faults = { λ c. c.faults };
 

@@ -125,8 +125,8 @@ work_once asks first last lane batch was now end before behind is = record {
 -- ---- the begin and the end
 
 -- a lane is as it was, where its cell has only heard that it changes
-pub same_site : (was now : Site) → now.caller ≡ was.caller → now.left ≡ was.left → now.cell_faults ≡ was.cell_faults → now.opened ≡ was.opened → now.gate_faults ≡ was.gate_faults → now ≡ was
-same_site was now caller left cell opened gate = λ i. record { caller = caller i; left = left i; cell_faults = cell i; opened = opened i; gate_faults = gate i }
+pub same_site : (was now : Site) → now.caller ≡ was.caller → now.feed ≡ was.feed → now.cell_faults ≡ was.cell_faults → now.opened ≡ was.opened → now.gate_faults ≡ was.gate_faults → now ≡ was
+same_site was now caller feed cell opened gate = λ i. record { caller = caller i; feed = feed i; cell_faults = cell i; opened = opened i; gate_faults = gate i }
 
 pub course_begins : (Reached : List Ask → Type 0) (Went : Known → Known → List Ask → Type 0) (Broke : Known → Known → List Ask → Ask → AskError → Type 0) (was : Site) (lane : ℕ) (course : Course)
     → IsUnbegun course → Reached [] → IsCourse Reached Went Broke was was lane course

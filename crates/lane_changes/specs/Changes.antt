@@ -51,7 +51,7 @@ pub record WaitsOnce (was now : Site) (given : CellNext) : Type 0 where
 -- a wait in which the cell failed
 pub record FailsOnce (was now : Site) : Type 0 where
   pub caller : now.caller ≡ was.caller
-  pub left : now.left ≡ was.left
+  pub feed : now.feed ≡ was.feed
   pub failed : Counted was.cell_faults now.cell_faults 1
   pub opened : now.opened ≡ was.opened
   pub gate : now.gate_faults ≡ was.gate_faults

@@ -1,3 +1,6 @@
+ghost use Rattle.std.specs.Prelude.{◌≡◌, IfOk};
+ghost use Rattle.lane_files.specs.LateFile.{cell_path, gate_path};
+
 use crate::late_file::LateFile;
 use crate::told_lines::ToldLines;
 use crate::types::{FileCell, FileGate};
@@ -18,7 +21,9 @@ pub fn file_cell<'a, R: Files<File = File> + Eprint>(
     folder: &str,
     number: u8,
     stop: StopFile,
-) -> Result<FileCell<'a, R>, AllocError> {
+) -> Result<FileCell<'a, R>, AllocError>
+    ensures named { IfOk result (λ cell. cell.reader.reader.path ≡ cell_path folder.now number) }
+{
     let path = format!(in alloc; "{folder}/cell-{number}.txt")?;
     let mut reading = OpenOptions::new();
     reading.read(true);
@@ -36,7 +41,9 @@ pub fn file_gate<'a, R: Files<File = File> + Eprint>(
     folder: &str,
     number: u8,
     stop: StopFile,
-) -> Result<FileGate<'a, R>, AllocError> {
+) -> Result<FileGate<'a, R>, AllocError>
+    ensures named { IfOk result (λ gate. gate.writer.writer.path ≡ gate_path folder.now number) }
+{
     let path = format!(in alloc; "{folder}/gate-{number}.txt")?;
     let mut appending = OpenOptions::new();
     appending.append(true).create(true);

@@ -61,19 +61,21 @@ impl<'a, R: Files<File = File> + Eprint> Drop for LateFile<'a, R> {
 }
 
 impl<'a, R: Files<File = File> + Eprint> Model for LateFile<'a, R> {
+    ghost use Rattle.std.specs.String.{string_bytes};
     ghost use Rattle.lane_files.specs.LateFile.{LateFile as Late, is_shut};
 
     ghost Value = { Late };
 
-    ghost view = { λ f. record { is_shut = is_shut f.opening } };
+    ghost view = { λ f. record { is_shut = is_shut f.opening; path = string_bytes f.path } };
 }
 
 impl<'a, R: Files<File = File> + Eprint> LateFile<'a, R> {
     ghost use Rattle.std.specs.Prelude.{◌≡◌, ◌≤◌, true, false, length, IfOk, IsErr};
+    ghost use Rattle.std.specs.String.{string_bytes};
 
     /// The file at a path, to be opened so. It isn't opened yet.
     pub fn new(rt: &'a R, path: String, options: OpenOptions, stop: StopFile) -> Self
-        ensures { result.is_shut ≡ false }
+        ensures { result ≡ record { is_shut = false; path = string_bytes path } }
     {
         LateFile {
             rt,

@@ -34,7 +34,7 @@ impl<C: Cell, E: Eprint + Drop> ToldCell<C, E> {
 }
 
 impl<C: Cell, E: Eprint + Drop> Cell for ToldCell<C, E> {
-    ghost left = { C.left };
+    ghost feed = { C.feed };
 
     ghost faults = { C.faults };
 

@@ -32,6 +32,7 @@ impl<S: Source, E: Eprint + Drop> ToldLines<S, E> {
         requires unended { S.ended source ≡ false }
         ensures left { cell_left S.left result ≡ option_map (bytes_give 0) (S.left source) }
         ensures faults { result.faults ≡ 0 }
+        ensures reader { result.reader ≡ source }
     {
         ToldLines {
             lines: LineCell::new(KeptSource::new(source)),
@@ -43,9 +44,10 @@ impl<S: Source, E: Eprint + Drop> ToldLines<S, E> {
 
 impl<S: Source, E: Eprint + Drop> Cell for ToldLines<S, E> {
     ghost use Rattle.device_facts.specs.Frame.{NothingElse};
+    ghost use Rattle.lane_worker.specs.Cells.{told_left};
     ghost use Rattle.lane_worker.specs.CellLines.{cell_left};
 
-    ghost left = { λ cell. cell_left S.left cell };
+    ghost feed = { λ cell. told_left (cell_left S.left cell) };
 
     ghost faults = { λ cell. cell.faults };
 

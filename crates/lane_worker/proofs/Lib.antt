@@ -1,6 +1,6 @@
 mod AddedRows
 mod AskOrder
-mod GivenItems
+pub mod GivenItems
 mod HeldBytes
 mod LineItems
 mod OpenedPacks

@@ -244,7 +244,7 @@ starts Before Reached devices was mid now lane batch found seen answered is stop
 
 -- what the cell gave doesn't depend on the caller
 takes_with : (mid at : Site) (now : Known) (item : CellNext) → TakesItem mid at item → TakesItem mid (with_caller at now) item
-takes_with mid at now item takes = record { next = takes.next; left = takes.left; cell = takes.cell; opened = takes.opened; gate = takes.gate }
+takes_with mid at now item takes = record { next = takes.next; feed = takes.feed; cell = takes.cell; opened = takes.opened; gate = takes.gate }
 
 -- the weighing isn't answered
 pub weighing_breaks : (Before Reached : List Ask → Type 0) (Broke : List Ask → Ask → AskError → Type 0) (was mid at : Site) (now : Known) (lane : ℕ) (batch : Name) (gross : ℤ) (progress : Progress) (why : AskError)
@@ -340,7 +340,7 @@ settles_none Reached was now lane batch opened has = record {
 pub record Lifts (was now : Site) (packs : List ℕ) : Type 0 where
   pub asks : now.caller ≡ was.caller
   pub opened : now.opened ≡ with_packs packs was.opened
-  pub left : now.left ≡ was.left
+  pub feed : now.feed ≡ was.feed
   pub cell : now.cell_faults ≡ was.cell_faults
 
 pub settles_open : (Reached : List Ask → Type 0) (was mid now : Site) (lane : ℕ) (batch : Name) (pack opened : ℕ) → HasWeighed Reached was mid lane batch (Some pack) opened
@@ -356,7 +356,7 @@ settles_open Reached was mid now lane batch pack opened has lifts calm =
       weighing = record {
         added = subst (λ (k : Known). HasAdded was.caller k done.asked done.rows) (sym lifts.asks) is.added;
         calm = subst (λ (k : Known). IsCalm was.caller k) (sym lifts.asks) is.calm;
-        given = subst (λ (e : Option WeighingEnd). HasGiven was now done.grosses e) (sym has.unended) (given_same was mid now done.grosses given lifts.left lifts.cell);
+        given = subst (λ (e : Option WeighingEnd). HasGiven was now done.grosses e) (sym has.unended) (given_same was mid now done.grosses given lifts.feed lifts.cell);
         grows = packs_more done.opened pack was.opened mid.opened now.opened is.grows lifts.opened;
         passed = is.passed ∙ sym (append-nil packs);
         gate = subst (λ (n : ℕ). FailsIf (gate_failed done.ending) was.gate_faults n) (sym calm) is.gate;
@@ -391,7 +391,7 @@ settles_shut Reached was mid now lane batch pack opened has lifts failed =
       weighing = record {
         added = subst (λ (k : Known). HasAdded was.caller k done.asked done.rows) (sym lifts.asks) is.added;
         calm = subst (λ (k : Known). IsCalm was.caller k) (sym lifts.asks) is.calm;
-        given = given_to_gate was mid now done.grosses given lifts.left lifts.cell;
+        given = given_to_gate was mid now done.grosses given lifts.feed lifts.cell;
         grows = same ∙ is.grows;
         passed = is.passed;
         gate = subst (λ (n : ℕ). Counted n now.gate_faults 1) calm failed;
@@ -442,7 +442,7 @@ ends_with Reached was mid at lane batch progress item ending last cell gate weig
 
 -- by its failure
 pub ends_failed : (Reached : List Ask → Type 0) (was mid at : Site) (lane : ℕ) (batch : Name) (progress : Progress)
-    → Weighs Reached was mid lane batch progress → at.left ≡ mid.left → Counted mid.cell_faults at.cell_faults 1 → at.opened ≡ mid.opened → at.gate_faults ≡ mid.gate_faults
+    → Weighs Reached was mid lane batch progress → at.feed ≡ mid.feed → Counted mid.cell_faults at.cell_faults 1 → at.opened ≡ mid.opened → at.gate_faults ≡ mid.gate_faults
     → HasEnded Reached was (with_caller at mid.caller) lane batch CellFailed progress
 ends_failed Reached was mid at lane batch progress weighs left failed opened gate =
     let done = weighs.done in

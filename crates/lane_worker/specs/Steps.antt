@@ -1,5 +1,5 @@
 -- How a worker goes on: where it stands, said from the begin of its work.
-use Rattle.std.specs.Prelude.{◌≡◌, ⊤, ℕ, ℤ, ◌<◌, ◌≤◌, min, false, List, [], ◌∷◌, ◌++◌, length, map, Option, option_map, Some, None, Result, Ok, Err}
+use Rattle.std.specs.Prelude.{◌≡◌, ⊤, ℕ, ℤ, ◌<◌, ◌≤◌, min, false, List, [], ◌∷◌, ◌++◌, length, map, Option, Some, None, Result, Ok, Err}
 use Rattle.std.specs.List.{cons_option}
 use Rattle.hall_limits.specs.declared.TheConstants.{MAX_ROWS}
 use Rattle.book_words.specs.declared.name.Name.{Name}
@@ -16,7 +16,7 @@ use Rattle.lane_worker.specs.declared.ending.WeighingEnd.{WeighingEnd}
 use Rattle.lane_worker.specs.declared.ending.LaneEnd.{LaneEnd}
 use Rattle.lane_worker.specs.declared.progress.Progress.{Progress}
 use Rattle.lane_worker.specs.Asks.{lane_ask, stop_found, is_among, prior_behind, starting_asks, stopping_asks, weighing_asks, passed_pack, passed_packs}
-use Rattle.lane_worker.specs.Cells.{IsNext, items_behind}
+use Rattle.lane_worker.specs.Cells.{IsNext, feed_behind}
 use Rattle.lane_worker.specs.Gates.{with_packs}
 use Rattle.lane_worker.specs.Endings.{ask_stop, gate_failed, FailsIf}
 use Rattle.lane_worker.specs.Works.{Site, Work, HasAdded, HasGiven, AreOpened, IsWork}
@@ -91,8 +91,8 @@ pub record Weighs (Reached : List Ask → Type 0) (was now : Site) (lane : ℕ) 
 
 -- the cell gave an item, and the gate is as it was
 pub record TakesItem (was now : Site) (item : CellNext) : Type 0 where
-  pub next : IsNext was.left item
-  pub left : now.left ≡ option_map items_behind was.left
+  pub next : IsNext was.feed.left item
+  pub feed : now.feed ≡ feed_behind was.feed item
   pub cell : now.cell_faults ≡ was.cell_faults
   pub opened : now.opened ≡ was.opened
   pub gate : now.gate_faults ≡ was.gate_faults

@@ -10,7 +10,6 @@ use Rattle.book_words.specs.Answers.{ask_of, IsLegal}
 use Rattle.book_words.specs.Callers.{Known, FAULTS_END, IsAsked}
 use Rattle.book_words.specs.Desks.{Row}
 use Rattle.book_words.specs.Views.{lane_view}
-use Rattle.lane_worker.specs.declared.types.CellNext.{CellNext}
 use Rattle.lane_worker.specs.declared.types.CellNext.TheVariants.{Gross}
 use Rattle.lane_worker.specs.declared.ending.WeighingEnd.{WeighingEnd}
 use Rattle.lane_worker.specs.declared.ending.WeighingEnd.TheVariants.{End}
@@ -20,15 +19,15 @@ use Rattle.lane_worker.specs.declared.ending.LaneEnd.{LaneEnd}
 use Rattle.lane_worker.specs.declared.cell.Cell as cell
 use Rattle.lane_worker.specs.declared.gate.Gate as gate
 use Rattle.lane_worker.specs.Asks.{work_asks, passed_packs}
-use Rattle.lane_worker.specs.Cells.{Gave}
+use Rattle.lane_worker.specs.Cells.{Feed, Gave}
 use Rattle.lane_worker.specs.Gates.{with_packs}
 use Rattle.lane_worker.specs.Endings.{weighing_stop, ask_stop, faults_at, last_items, cell_failed, gate_failed, FailsIf}
 
--- a worker at one moment: what is known of its caller, what the cell has left and for which packs
--- the gate opened, where they tell, and how often each failed
+-- a worker at one moment: what is known of its caller, what the cell has left and gave and for which
+-- packs the gate opened, where they tell, and how often each failed
 pub record Site : Type 0 where
   pub caller : Known
-  pub left : Option (List CellNext)
+  pub feed : Feed
   pub cell_faults : ℕ
   pub opened : Option (List ℕ)
   pub gate_faults : ℕ
@@ -37,7 +36,7 @@ abbrev pub site : {C L : Type 0} → caller.Ghosts C → cell.Ghosts L → gate.
 site asks weighs lifts caller lane =
     record {
       caller = asks.known caller;
-      left = weighs.left lane;
+      feed = weighs.feed lane;
       cell_faults = weighs.faults lane;
       opened = lifts.opened lane;
       gate_faults = lifts.faults lane;
@@ -75,7 +74,7 @@ pub record HasAdded (was now : Known) (asked : List Entry) (rows : List Row) : T
 -- a cell gave these grosses and then what ended the weighing, and no more; it failed just where that
 -- ended it
 pub record HasGiven (was now : Site) (grosses : List ℤ) (ending : Option WeighingEnd) : Type 0 where
-  pub items : Gave was.left (map (λ gross. Gross gross) grosses ++ last_items ending) now.left
+  pub items : Gave was.feed (map (λ gross. Gross gross) grosses ++ last_items ending) now.feed
   pub faults : FailsIf (cell_failed ending) was.cell_faults now.cell_faults
 
 -- of the packs that passed the gate opened for all; where it failed, for all but the last

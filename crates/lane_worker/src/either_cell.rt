@@ -14,7 +14,7 @@ impl<A: Cell, B: Cell> Cell for EitherCell<A, B> {
     ghost use Rattle.device_facts.specs.Frame.{NothingElse};
     ghost use Rattle.lane_worker.specs.Cells.{either_cell};
 
-    ghost left = { either_cell A.left B.left };
+    ghost feed = { either_cell A.feed B.feed };
 
     ghost faults = { either_cell A.faults B.faults };
 

@@ -9,7 +9,7 @@ pub trait Lane: Cell + Gate {
     ghost cell_leaves_gate: { (old new : Self) → Self.Cell.keeps_rest old new
         → (Self.opened new ≡ Self.opened old) × (Self.Gate.faults new ≡ Self.Gate.faults old) };
 
-    /// The gate leaves what the cell has left, and how often the cell failed.
+    /// The gate leaves what the cell has left and gave, and how often the cell failed.
     ghost gate_leaves_cell: { (old new : Self) → Self.Gate.keeps_rest old new
-        → (Self.left new ≡ Self.left old) × (Self.Cell.faults new ≡ Self.Cell.faults old) };
+        → (Self.feed new ≡ Self.feed old) × (Self.Cell.faults new ≡ Self.Cell.faults old) };
 }

@@ -40,7 +40,7 @@ impl<S: Source> Model for LineCell<S> {
 
 impl<S: Source> LineCell<S> {
     ghost use Rattle.std.specs.Prelude.{◌≡◌, false, option_map};
-    ghost use Rattle.lane_worker.specs.Cells.{GivesNext};
+    ghost use Rattle.lane_worker.specs.Cells.{GivesFirst};
     ghost use Rattle.lane_worker.specs.CellLines.{LineState, none_held, bytes_give, cell_left};
 
     /// A cell over a source whose end wasn't given. All that the source's bytes give is left, and
@@ -72,7 +72,7 @@ impl<S: Source> LineCell<S> {
 
     // Reads until the next item is known, and takes it.
     fn next_item(&mut self) -> Result<CellNext, Failed>
-        ensures item { GivesNext (cell_left S.left self.old) (cell_left S.left self.new) result }
+        ensures item { GivesFirst (cell_left S.left self.old) (cell_left S.left self.new) result }
         ensures faults { self.new.faults ≡ self.old.faults }
     {
         for _read in 0..u64::MAX {
@@ -89,17 +89,17 @@ impl<S: Source> LineCell<S> {
 impl<S: Source> Cell for LineCell<S> {
     ghost use Rattle.device_facts.specs.Count.{CountsFault};
     ghost use Rattle.device_facts.specs.Frame.{NothingElse};
-    ghost use Rattle.lane_worker.specs.Cells.{GivesNext};
+    ghost use Rattle.lane_worker.specs.Cells.{GivesFirst, told_left};
     ghost use Rattle.lane_worker.specs.CellLines.{cell_left};
 
-    ghost left = { λ c. cell_left S.left c };
+    ghost feed = { λ c. told_left (cell_left S.left c) };
 
     ghost faults = { λ c. c.faults };
 
     ghost keeps_rest = { NothingElse };
 
     fn next(&mut self) -> Result<CellNext, Failed>
-        ensures item { GivesNext (cell_left S.left self.old) (cell_left S.left self.new) result }
+        ensures item { GivesFirst (cell_left S.left self.old) (cell_left S.left self.new) result }
         ensures cause { CountsFault self.old.faults self.new.faults result }
     {
         let item = self.next_item();

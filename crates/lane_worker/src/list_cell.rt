@@ -83,16 +83,16 @@ impl Cell for ListCell {
     ghost use Rattle.device_facts.specs.Count.{CountsFault};
     ghost use Rattle.disk_core.specs.Streams.{next_call};
     ghost use Rattle.device_facts.specs.Frame.{NothingElse};
-    ghost use Rattle.lane_worker.specs.Cells.{GivesNext};
+    ghost use Rattle.lane_worker.specs.Cells.{GivesFirst, told_left};
 
-    ghost left = { λ c. Some c.left };
+    ghost feed = { λ c. told_left (Some c.left) };
 
     ghost faults = { λ c. c.faults };
 
     ghost keeps_rest = { NothingElse };
 
     fn next(&mut self) -> Result<CellNext, Failed>
-        ensures item { GivesNext (Some self.old.left) (Some self.new.left) result }
+        ensures item { GivesFirst (Some self.old.left) (Some self.new.left) result }
         ensures cause { CountsFault self.old.faults self.new.faults result }
         ensures listed { IsErr result ↔ Contains self.old.fails (next_call self.old.calls) }
         ensures calls { self.new.calls ≡ next_call self.old.calls }

@@ -26,7 +26,7 @@ impl<C, G> PairLane<C, G> {
 impl<C: Cell, G> Cell for PairLane<C, G> {
     ghost use Rattle.std.specs.Prelude.{◌≡◌};
 
-    ghost left = { λ lane. C.left lane.cell };
+    ghost feed = { λ lane. C.feed lane.cell };
 
     ghost faults = { λ lane. C.faults lane.cell };
 
@@ -61,5 +61,5 @@ impl<C: Cell, G: Gate> Lane for PairLane<C, G> {
 
     ghost cell_leaves_gate = { λ old new same. (ap G.opened same, ap G.faults same) };
 
-    ghost gate_leaves_cell = { λ old new same. (ap C.left same, ap C.faults same) };
+    ghost gate_leaves_cell = { λ old new same. (ap C.feed same, ap C.faults same) };
 }

@@ -8,7 +8,7 @@ use Rattle.device_facts.specs.Prefix.{IsPrefixOf}
 use Rattle.remote_cell.specs.declared.items.Item.{Item}
 use Rattle.remote_cell.specs.declared.receiver.Heard.{Heard}
 use Rattle.remote_cell.specs.declared.receiver.Heard.TheVariants.{Take, Again, Ahead}
-use Rattle.remote_cell.specs.Exchanges.{Line, heard, heard_items, acknowledgements, said_by, is_said, Event, Says, LineArrives, AcknowledgementArrives, Exchange, begun, with_said, with_line, with_acknowledgement, with_event, exchanged_from, exchanged, IsFaithful}
+use Rattle.remote_cell.specs.Exchanges.{Line, heard, heard_items, line_items, acknowledgements, IsLineOf, said_by, is_said, Event, Says, LineArrives, AcknowledgementArrives, Exchange, begun, with_said, with_line, with_acknowledgement, with_event, exchanged_from, exchanged, IsFaithful}
 
 -- ---- lists
 
@@ -50,12 +50,6 @@ prefix_more {X} front whole x begins next =
     ∙ ap (λ (xs : List X). slice_get xs (length front)) (sym begins.1) ∙ next)
 
 -- ---- what holds of an exchange
-
--- a line says an item of the list, by its number
-record IsLineOf (items : List Item) (line : Line) : Type 0 where
-  place : ℕ
-  number : line.0 ≡ place + 1
-  item : slice_get items place ≡ Some line.1
 
 record Holds (items : List Item) (x : Exchange) : Type 0 where
   same : x.sending.items ≡ items
@@ -199,3 +193,21 @@ pub is_faithful : (items : List Item) (events : List Event)
 is_faithful items events =
     let holds = holds_from items (begun items) events (holds_begun items) in
     record { taken = holds.taken; acknowledged = holds.acknowledged }
+
+-- ---- lines, one after another
+
+-- what is taken of lines of a scale are the first of its items, where those taken before are
+pub lines_taken : (items taken : List Item) (lines : List Line) → All (IsLineOf items) lines
+    → IsPrefixOf taken items → IsPrefixOf (taken ++ line_items (length taken) lines) items
+lines_taken items taken [] of begins =
+    subst (λ (xs : List Item). IsPrefixOf xs items) (sym (append-nil taken)) begins
+lines_taken items taken (line ∷ lines) of begins =
+    let t : List Item = heard_items (heard (length taken) line.0) line.1 in
+    let first = taken_more items taken line (heard (length taken) line.0)
+    (All-head (IsLineOf items) line lines of) refl begins in
+    let all = lines_taken items (taken ++ t) lines (All-tail (IsLineOf items) line lines of) first in
+    let same : (taken ++ t) ++ line_items (length (taken ++ t)) lines
+    ≡ taken ++ (t ++ line_items (length taken + length t) lines) =
+    append_assoc taken t (line_items (length (taken ++ t)) lines)
+    ∙ ap (λ (n : ℕ). taken ++ (t ++ line_items n lines)) (length-append taken t) in
+    subst (λ (xs : List Item). IsPrefixOf xs items) same all

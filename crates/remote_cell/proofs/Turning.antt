@@ -18,7 +18,7 @@ use Rattle.remote_cell.specs.declared.reading.LineEnd.TheVariants.{Whole, TooLon
 use Rattle.remote_cell.specs.declared.turns.TheConstants.{MAX_TURNS}
 use Rattle.remote_cell.specs.Exchanges.{Line, heard}
 use Rattle.remote_cell.specs.WireLines.{line_said, acknowledgement}
-use Rattle.remote_cell.specs.Told.{Port, Site, site, IsSound, Knows, given_items, silent}
+use Rattle.remote_cell.specs.Told.{Port, Site, site, IsNothingMore, IsSound, Knows, given_items, silent}
 use Rattle.remote_cell.specs.Heard.{FailedSoOften, HasTaken, IfBoth, Goes, items_of, over_behind, LastSays, Tells, ResultTells, HasHeard}
 use Rattle.remote_cell.specs.Steps.{Sends, ReadsLine, bad_behind, spoilt, heard_line, item_given, heard_text, item_heard, Acknowledged, is_answered, AnsweredIf, IsReady, Gives, TurnsTo}
 use Rattle.remote_cell.proofs.Knowing.{paid, failed, writes, still_says, leaving, Cuts, cuts, too_long, MayTell, may_items, hears_text, joining, joins, ends, none_taken, knows_none}
@@ -163,6 +163,7 @@ pays door mid h result sound owes sent =
         sound = record {
           unended = λ is. sent.ended ∙ sound.unended connected;
           owing = λ is. absurd (true≢false (sym is));
+          over = sound.over;
           told = told.0;
         };
         same = refl;
@@ -221,6 +222,24 @@ text_over : (h : Hearing) (said : Option Line) → h.over ≡ None
     → (heard_text h said).over ≡ may_over (item_heard h said)
 text_over h None over = refl
 text_over h (Some line) over = line_over h (heard h.receiver line.0) line.1 over
+
+-- where a cell goes on, nothing is said of what comes
+nothing_more : (over : Option CellNext) → over ≡ None → IsNothingMore over
+nothing_more over none = subst IsNothingMore (sym none) tt
+
+line_nothing_more : (h : Hearing) (how : hears.Heard) (item : Item) → h.over ≡ None
+    → IsNothingMore (heard_line h how item).over
+line_nothing_more h Take (Gross gross) over = nothing_more h.over over
+line_nothing_more h Take (Batch batch) over = nothing_more h.over over
+line_nothing_more h Take End over = refl
+line_nothing_more h Again item over = nothing_more h.over over
+line_nothing_more h Ahead item over = nothing_more h.over over
+
+text_nothing_more : (h : Hearing) (said : Option Line) → h.over ≡ None
+    → IsNothingMore (heard_text h said).over
+text_nothing_more h None over = refl
+text_nothing_more h (Some line) over =
+    line_nothing_more h (heard h.receiver line.0) line.1 over
 
 -- what is owed where nothing is acknowledged at once
 abbrev pub OwesBy : Option CellNext → Bool → Type 0
@@ -282,6 +301,7 @@ hears_line door mid h text ready connected read =
         sound = record {
           unended = λ is. read.ends.1;
           owing = λ is. still;
+          over = text_nothing_more h said ready.goes_on;
           told = told.0;
         };
         same = text_takes h said;
@@ -386,6 +406,7 @@ turns_long door mid h line ready connected read =
         sound = record {
           unended = λ is. read.ends.1;
           owing = λ is. connected;
+          over = refl;
           told = told.0;
         };
         same = refl;
@@ -418,6 +439,7 @@ admitted door mid h ready left is found begins calm missed =
       sound = record {
         unended = λ yes_is. begins;
         owing = λ owes. refl;
+        over = nothing_more h.over ready.goes_on;
         told = told.0;
       };
       same = refl;
@@ -471,6 +493,7 @@ turns_ended door mid h ready left is found calm missed =
         sound = record {
           unended = λ yes_is. absurd (true≢false (sym yes_is ∙ left));
           owing = λ owes. absurd (true≢false (sym owes ∙ ready.paid));
+          over = refl;
           told = told.0;
         };
         same = refl;
@@ -519,6 +542,7 @@ turns_refused door mid h error ready left is cause missed =
         sound = record {
           unended = λ yes_is. absurd (true≢false (sym yes_is ∙ left));
           owing = ready.sound.owing;
+          over = ready.sound.over;
           told = told.0;
         };
         same = refl;
@@ -560,6 +584,7 @@ cut_goes door mid h line faults ready connected read cut many =
       sound = record {
         unended = λ is. absurd (true≢false (sym is));
         owing = λ owes. absurd (true≢false (sym owes ∙ ready.paid));
+        over = ready.sound.over;
         told = told.0;
       };
       same = refl;
@@ -735,6 +760,7 @@ pub sound_none : (batches : Bool) (door : Port)
 sound_none batches door none = record {
   unended = λ is. absurd (true≢false (sym is));
   owing = λ is. absurd (true≢false (sym is));
+  over = tt;
   told = none_known batches door.connections none;
 }
 

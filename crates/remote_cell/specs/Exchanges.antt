@@ -74,6 +74,12 @@ is_said s number = option_map_or (λ (line : Line). line.0 == number) (said_by s
 abbrev pub after_acknowledgement : Sending → ℕ → Sending
 after_acknowledgement s number = if is_said s number then record s { acknowledged = number } else s
 
+-- a line says an item of a scale's, by its number, counted from 1
+pub record IsLineOf (items : List Item) (line : Line) : Type 0 where
+  pub place : ℕ
+  pub number : line.0 ≡ place + 1
+  pub item : slice_get items place ≡ Some line.1
+
 -- ---- the line between them
 
 -- what may happen: the scale says its line, a line arrives that it ever said, or an acknowledgement

@@ -1,9 +1,12 @@
 -- What the connections of a door tell of a scale, and what a cell over the door knows of it.
-use Rattle.std.specs.Prelude.{◌≡◌, ℕ, ◌+◌, ◌-◌, ◌^◌, ◌≤◌, ◌&&◌, nat_eq, min, Bool, true, false, cond, List, [], ◌∷◌, ◌++◌, length, flat_map, filter_map, All, if◌then◌else◌, Option, Some, None, IfSome, IsSome}
+use Rattle.std.specs.Prelude.{◌≡◌, ℕ, ◌+◌, ◌-◌, ◌^◌, ◌≤◌, ◌&&◌, nat_eq, min, Bool, true, false, cond, List, [], ◌∷◌, ◌++◌, length, flat_map, filter_map, All, if◌then◌else◌, Option, Some, None, option_map, IfSome, IsSome}
 use Rattle.device_facts.specs.Prefix.{IsPrefixOf}
 use Rattle.disk_core.specs.declared.source.Source as source
 use Rattle.disk_core.specs.Doors.{Connection, Connections, served}
+use Rattle.lane_worker.specs.declared.types.CellNext.{CellNext}
+use Rattle.lane_worker.specs.Cells.{Given, Feed, weight, batch, given_by, told_given}
 use Rattle.remote_cell.specs.declared.items.Item.{Item}
+use Rattle.remote_cell.specs.declared.items.Item.TheVariants.{Gross, Batch, End}
 use Rattle.remote_cell.specs.declared.hearing.Hearing.{Hearing}
 use Rattle.remote_cell.specs.declared.wire_lines.TheConstants.{MAX_LINE}
 use Rattle.remote_cell.specs.Exchanges.{Line, heard, heard_items, line_items, taken, acknowledgements}
@@ -23,6 +26,16 @@ connection_lines batches c = filter_map (line_said batches) (whole_lines c.taken
 -- the items taken of some connections, one after another
 abbrev pub given_items : Bool → List Connection → List Item
 given_items batches connections = taken (flat_map (connection_lines batches) connections)
+
+-- what an item says that is booked: the end says nothing
+abbrev pub item_says : Item → List Given
+item_says (Gross gross) = weight gross ∷ []
+item_says (Batch name) = batch name ∷ []
+item_says End = []
+
+-- the weights and batches taken of all connections so far
+abbrev pub given_so_far : Bool → Connections → List Given
+given_so_far batches all = flat_map item_says (given_items batches (served all))
 
 -- a line is of one of the forms, and isn't too long
 abbrev pub IsGoodLine : Bool → List ℕ → Type 0
@@ -109,6 +122,11 @@ pub record Site : Type 0 where
 abbrev pub site : Port → Hearing → Site
 site door hearing = record { door = door; hearing = hearing }
 
+-- what a cell tells: the weights and batches taken so far, where its door tells its connections
+abbrev pub feed_of : Site → Feed
+feed_of here =
+    told_given (option_map (given_so_far here.hearing.batches) here.door.connections)
+
 -- nothing was heard yet, by who takes batches or doesn't
 abbrev pub silent : Bool → Hearing
 silent batches = record {
@@ -149,9 +167,14 @@ pub record Knows (h : Hearing) (all : Connections) : Type 0 where
   pub good : h.over ≡ None → All (IsGood h.batches) all.past
   pub present : KnowsPresent h (length (given_items h.batches all.past)) all.present
 
+-- what each call gives from now on, where that is known, is nothing to be booked
+abbrev pub IsNothingMore : Option CellNext → Type 0
+IsNothingMore over = IfSome over (λ item. given_by item ≡ [])
+
 -- so it is where the door tells its connections; a connection that isn't to be left goes on, and
--- only such a one may be owed an acknowledgement
+-- only such a one may be owed an acknowledgement; behind the end and what is bad comes nothing more
 pub record IsSound (door : Port) (h : Hearing) : Type 0 where
   pub unended : h.connected ≡ true → door.ended ≡ false
   pub owing : h.owes ≡ true → h.connected ≡ true
+  pub over : IsNothingMore h.over
   pub told : IfSome door.connections (Knows h)

@@ -16,7 +16,7 @@ mod turns;
 mod wire_lines;
 
 pub use items::{Item, Items};
-pub use law::exchange_law;
+pub use law::{exchange_law, given_law};
 pub use receiver::{Heard, Receiver};
 pub use remote_cell::RemoteCell;
 pub use sender::Sender;

@@ -62,10 +62,11 @@ impl<O: Door> Cell for RemoteCell<O> {
     ghost use Rattle.std.specs.Prelude.{◌≡◌, None, IfSome, Ok};
     ghost use Rattle.device_facts.specs.Count.{CountsFault};
     ghost use Rattle.device_facts.specs.Frame.{NothingElse};
-    ghost use Rattle.remote_cell.specs.Told.{port, site, IsSound};
+    ghost use Rattle.lane_worker.specs.Cells.{GivesNext};
+    ghost use Rattle.remote_cell.specs.Told.{port, site, feed_of, IsSound};
     ghost use Rattle.remote_cell.specs.Heard.{HasHeard};
 
-    ghost left = { λ c. None };
+    ghost feed = { λ c. feed_of (site (port O.Source O.connections O.missed c.door) c.hearing) };
 
     ghost faults = { λ c. c.faults };
 
@@ -74,6 +75,10 @@ impl<O: Door> Cell for RemoteCell<O> {
     /// The next item. The own count of faults rises exactly where the next connection couldn't be
     /// admitted, which is `Failed`.
     fn next(&mut self) -> Result<CellNext, Failed>
+        ensures item { GivesNext
+            (feed_of (site (port O.Source O.connections O.missed self.old.door) self.old.hearing))
+            (feed_of (site (port O.Source O.connections O.missed self.new.door) self.new.hearing))
+            result }
         ensures cause { CountsFault self.old.faults self.new.faults result }
         ensures sound { IsSound (port O.Source O.connections O.missed self.new.door) self.new.hearing }
         ensures over { IfSome self.old.hearing.over (λ item. (result ≡ Ok item)

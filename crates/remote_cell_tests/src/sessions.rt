@@ -59,6 +59,27 @@ fn first_wrong_call(alloc: Global) -> Option<u32> {
     None
 }
 
+// A connection whose second line would end the session, and what the scale says on the next one.
+const ENDING: &[u8] = b"1 251\n2 end\n";
+
+// The calls that read that second line: it comes behind the admission, six bytes and one line
+// written.
+const FIRST_OF_END: u32 = 9;
+
+const LAST_OF_END: u32 = 14;
+
+// The first read of a line at whose failure its connection isn't left at once, so that something
+// behind the failure counts.
+fn first_read_on(alloc: Global) -> Option<u32> {
+    for call in FIRST_OF_END..LAST_OF_END + 1 {
+        let mut cell = cell_of(alloc, &[ENDING, SESSION], &[call]);
+        if !gives(&mut cell, &SENT) {
+            return Some(call);
+        }
+    }
+    None
+}
+
 // Whether a second connection that can't be admitted is admitted at the next call.
 fn is_admitted_again(alloc: Global) -> bool {
     let mut cell = cell_of(alloc, &[b"1 25", SESSION], &[7]);
@@ -69,6 +90,7 @@ fn is_admitted_again(alloc: Global) -> bool {
 fn sessions_go_on(rt: HostRuntime) -> Result<(), Fail> {
     assert_eq!(rt; first_wrong_cut(rt.alloc()), None);
     assert_eq!(rt; first_wrong_call(rt.alloc()), None);
+    assert_eq!(rt; first_read_on(rt.alloc()), None);
     assert!(rt; is_admitted_again(rt.alloc()));
     Ok(())
 }

@@ -224,7 +224,7 @@ abbrev pub site_with : Known → LaneState → Site
 site_with known lane =
     record {
       caller = known;
-      left = lane.left;
+      feed = lane.feed;
       cell_faults = lane.cell_faults;
       opened = lane.opened;
       gate_faults = lane.gate_faults;

@@ -9,7 +9,6 @@ use Rattle.book_words.specs.declared.caller.AskError.TheVariants as error
 use Rattle.book_words.specs.Answers.{answer, added, ask_of}
 use Rattle.book_words.specs.Callers.{MayFindNoMemory}
 use Rattle.book_words.specs.Desks.{Row}
-use Rattle.lane_worker.specs.declared.types.CellNext.{CellNext}
 use Rattle.lane_worker.specs.declared.types.CellNext.TheVariants.{Gross}
 use Rattle.lane_worker.specs.declared.ending.WeighingEnd.{WeighingEnd}
 use Rattle.lane_worker.specs.declared.ending.LaneStop.{LaneStop}
@@ -17,7 +16,7 @@ use Rattle.lane_worker.specs.declared.ending.LaneEnd.{LaneEnd}
 use Rattle.lane_worker.specs.declared.cell.Cell as cell
 use Rattle.lane_worker.specs.declared.gate.Gate as gate
 use Rattle.lane_worker.specs.Asks.{passed_packs}
-use Rattle.lane_worker.specs.Cells.{Gave}
+use Rattle.lane_worker.specs.Cells.{Feed, Gave}
 use Rattle.lane_worker.specs.Gates.{with_packs}
 use Rattle.lane_worker.specs.Endings.{weighing_stop, ask_stop, last_items, cell_failed, gate_failed, FailsIf}
 use Rattle.lane_worker.specs.Works.{Work, AreOpened, asks_of_work}
@@ -26,10 +25,10 @@ use Rattle.store_runs.specs.declared.stop.Stop.{Stop}
 use Rattle.store_runs.specs.declared.stop.Stop.TheVariants.{DiskFault, NoMemory}
 use Rattle.store_runs.specs.Books.{BookState}
 
--- the devices of a lane at one moment: what the cell has left and for which packs the gate opened,
--- where they tell, and how often each failed
+-- the devices of a lane at one moment: what the cell has left and gave and for which packs the gate
+-- opened, where they tell, and how often each failed
 pub record LaneState : Type 0 where
-  pub left : Option (List CellNext)
+  pub feed : Feed
   pub cell_faults : ℕ
   pub opened : Option (List ℕ)
   pub gate_faults : ℕ
@@ -37,7 +36,7 @@ pub record LaneState : Type 0 where
 abbrev pub lane_state : {L : Type 0} → cell.Ghosts L → gate.Ghosts L → L → LaneState
 lane_state weighs lifts lane =
     record {
-      left = weighs.left lane;
+      feed = weighs.feed lane;
       cell_faults = weighs.faults lane;
       opened = lifts.opened lane;
       gate_faults = lifts.faults lane;
@@ -46,8 +45,8 @@ lane_state weighs lifts lane =
 -- what a work made of the devices: the cell gave its grosses and then what ended the weighing, and
 -- no more; the gate opened for its packs; and each failed just where that ended the weighing
 pub record HasMoved (was now : LaneState) (work : Work) : Type 0 where
-  pub items : Gave was.left (map (λ gross. Gross gross) work.grosses ++ last_items work.ending)
-      now.left
+  pub items : Gave was.feed (map (λ gross. Gross gross) work.grosses ++ last_items work.ending)
+      now.feed
   pub cell : FailsIf (cell_failed work.ending) was.cell_faults now.cell_faults
   pub opened : now.opened ≡ with_packs work.opened was.opened
   pub gate : FailsIf (gate_failed work.ending) was.gate_faults now.gate_faults

@@ -1,12 +1,12 @@
 -- What works make of the devices of lanes, one after another.
-use Rattle.std.proofs.Common.{◌≡◌, ℕ, suc, zero, ◌+◌, ◌<◌, Bool, true, false, ◌==◌, if◌then◌else◌, List, [], ◌∷◌, ◌++◌, length, map, filter, get_or, set, Option, Some, None, option_map, refl, sym, ap, ◌∙◌, subst, arith, append_assoc, append-nil, length-append}
+use Rattle.std.proofs.Common.{◌≡◌, ℕ, suc, zero, ◌+◌, ◌<◌, Bool, true, false, ◌==◌, if◌then◌else◌, List, [], ◌∷◌, ◌++◌, length, map, filter, get_or, set, Option, Some, None, refl, sym, ap, ◌∙◌, subst, arith, append_assoc, append-nil, length-append}
 use Rattle.std.proofs.lemmas.Bool.{eq-eqb}
 use Rattle.std.proofs.lemmas.Bool.Decides.{nat_tests}
 use Rattle.std.proofs.lemmas.Grind.{flat_map-append}
 use Rattle.std.proofs.lemmas.List.Elements.{filter-append}
 use Rattle.device_facts.specs.Count.{Counted}
 use Rattle.lane_worker.specs.declared.types.CellNext.{CellNext}
-use Rattle.lane_worker.specs.Cells.{items_behind, Gave}
+use Rattle.lane_worker.specs.Cells.{Feed, feed_behind, Gave}
 use Rattle.lane_worker.specs.Gates.{with_packs}
 use Rattle.lane_worker.specs.Endings.{cell_failed, gate_failed, FailsIf}
 use Rattle.lane_worker.specs.Works.{Work}
@@ -18,13 +18,13 @@ use Rattle.script_events.specs.Transcript.{Event, Worked, Job, ends_in, ends_of,
 -- ---- one device
 
 -- items, and then more
-gave_on : (was : Option (List CellNext)) (items : List CellNext) (mid : Option (List CellNext))
-    (more : List CellNext) (now : Option (List CellNext)) → Gave was items mid
+gave_on : (was : Feed) (items : List CellNext) (mid : Feed) (more : List CellNext) (now : Feed)
+    → Gave was items mid
     → Gave mid more now → Gave was (items ++ more) now
 gave_on was [] mid more now first second =
-    subst (λ (left : Option (List CellNext)). Gave left more now) first second
+    subst (λ (feed : Feed). Gave feed more now) first second
 gave_on was (item ∷ items) mid more now first second =
-    (first.0, gave_on (option_map items_behind was) items mid more now first.1 second)
+    (first.0, gave_on (feed_behind was item) items mid more now first.1 second)
 
 -- packs, and then more
 packs_on : (packs more : List ℕ) (was mid now : Option (List ℕ)) → mid ≡ with_packs packs was
@@ -75,7 +75,7 @@ worked_once : (was now : LaneState) (work : Work) → HasMoved was now work
     → HasWorked was now (work ∷ [])
 worked_once was now work moved =
     record {
-      items = subst (λ (items : List CellNext). Gave was.left items now.left)
+      items = subst (λ (items : List CellNext). Gave was.feed items now.feed)
           (sym (append-nil (items_given work))) moved.items;
       cell = fails_once (cell_failed work.ending) work was.cell_faults now.cell_faults moved.cell;
       opened = moved.opened
@@ -87,9 +87,9 @@ worked_on : (was mid now : LaneState) (works more : List Work) → HasWorked was
     → HasWorked mid now more → HasWorked was now (works ++ more)
 worked_on was mid now works more first second =
     record {
-      items = subst (λ (items : List CellNext). Gave was.left items now.left)
+      items = subst (λ (items : List CellNext). Gave was.feed items now.feed)
           (sym (flat_map-append items_given works more))
-          (gave_on was.left _ mid.left _ now.left first.items second.items);
+          (gave_on was.feed _ mid.feed _ now.feed first.items second.items);
       cell = subst (λ (n : ℕ). FailsOften n was.cell_faults now.cell_faults)
           (sym (count_on (λ (w : Work). cell_failed w.ending) works more))
           (fails_on _ _ was.cell_faults mid.cell_faults now.cell_faults first.cell second.cell);

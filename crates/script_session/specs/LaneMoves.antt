@@ -24,7 +24,7 @@ FailsOften (suc times) before now = Counted before now (suc times)
 -- together, and no more; the gate opened for their packs put together; and each failed as often as
 -- it ended a weighing
 pub record HasWorked (was now : LaneState) (works : List Work) : Type 0 where
-  pub items : Gave was.left (flat_map items_given works) now.left
+  pub items : Gave was.feed (flat_map items_given works) now.feed
   pub cell : FailsOften (length (filter (λ work. cell_failed work.ending) works))
       was.cell_faults now.cell_faults
   pub opened : now.opened ≡ with_packs (flat_map (λ work. work.opened) works) was.opened

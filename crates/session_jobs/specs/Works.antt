@@ -29,7 +29,7 @@ abbrev pub lane_site : {L : Type 0} → cell.Ghosts L → gate.Ghosts L → Know
 lane_site weighs lifts known lane =
     record {
       caller = known;
-      left = weighs.left lane;
+      feed = weighs.feed lane;
       cell_faults = weighs.faults lane;
       opened = lifts.opened lane;
       gate_faults = lifts.faults lane;

@@ -1,12 +1,13 @@
 -- What contracts see of a door over TCP.
 use Rattle.std.specs.Prelude.{ℕ, Bool, true, false, nat_lt, Result, Ok, Err}
 
--- whether it listens; whether it may be asked to end, and whether it has ended so; how many
--- connections it still awaits; whether one is present, and whether
--- bytes of it were read since the last write; whether its end was given; the faults counted, and
--- those of `next` among them
+-- whether it listens, and the port that it was asked to listen at; whether it may be asked to end,
+-- and whether it has ended so; how many connections it still awaits; whether one is present, and
+-- whether bytes of it were read since the last write; whether its end was given; the faults counted,
+-- and those of `next` among them
 pub record OpenDoor : Type 0 where
   pub listens : Bool
+  pub asked_port : ℕ
   pub may_stop : Bool
   pub has_stopped : Bool
   pub awaited : ℕ

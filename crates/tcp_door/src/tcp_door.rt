@@ -24,6 +24,7 @@ use stop_file::StopFile;
 /// manners say; then there is no next connection.
 pub struct TcpDoor<R: Clock + Eprint + Drop> {
     entrance: io::Result<Entrance<R>>,
+    asked_port: u16,
     stop: StopFile,
     has_stopped: bool,
     visit: Option<Visit>,
@@ -39,6 +40,7 @@ impl<R: Clock + Eprint + Drop> Drop for TcpDoor<R> {
     fn drop(self) {
         let Self {
             entrance: _,
+            asked_port: _,
             stop: _,
             has_stopped: _,
             visit: _,
@@ -59,6 +61,7 @@ impl<R: Clock + Eprint + Drop> Model for TcpDoor<R> {
 
     ghost view = { λ d. record {
       listens = is_ok d.entrance;
+      asked_port = d.asked_port;
       may_stop = d.stop;
       has_stopped = d.has_stopped;
       awaited = d.awaited;
@@ -88,6 +91,7 @@ impl<R: Clock + Eprint + Net<Listener = TcpListener, Stream = TcpStream> + Drop>
     ) -> Self
         ensures { result ≡ record {
           listens = result.listens;
+          asked_port = port;
           may_stop = stop;
           has_stopped = false;
           awaited = connections;
@@ -100,6 +104,7 @@ impl<R: Clock + Eprint + Net<Listener = TcpListener, Stream = TcpStream> + Drop>
     {
         TcpDoor {
             entrance: open_entrance(alloc, rt, port, manners),
+            asked_port: port,
             stop,
             has_stopped: false,
             visit: None,
@@ -199,6 +204,7 @@ impl<R: Clock + Eprint + Drop> Source for TcpDoor<R> {
         ensures cause { CountsFault self.old.faults self.new.faults result }
         ensures rest { self.new.missed ≡ self.old.missed }
         ensures kept { (self.new.listens ≡ self.old.listens)
+            × (self.new.asked_port ≡ self.old.asked_port)
             × (self.new.awaited ≡ self.old.awaited)
             × (self.new.is_present ≡ self.old.is_present)
             × (self.new.may_stop ≡ self.old.may_stop)
@@ -242,6 +248,7 @@ impl<R: Clock + Eprint + Drop> Sink for TcpDoor<R> {
         ensures request { self.new.in_request ≡ (self.old.in_request && not (moved_some result)) }
         ensures cause { CountsFault self.old.faults self.new.faults result }
         ensures kept { (self.new.listens ≡ self.old.listens)
+            × (self.new.asked_port ≡ self.old.asked_port)
             × (self.new.awaited ≡ self.old.awaited)
             × (self.new.is_present ≡ self.old.is_present)
             × (self.new.may_stop ≡ self.old.may_stop)
@@ -296,6 +303,7 @@ impl<R: Clock + Eprint + Drop> Door for TcpDoor<R> {
         ensures whole { OnOk result (self.new.in_request ≡ false) }
         ensures stays { OnErr result (self.new.ended ≡ self.old.ended) }
         ensures listens { self.new.listens ≡ self.old.listens }
+        ensures asked_port { self.new.asked_port ≡ self.old.asked_port }
         ensures cause { CountsFault self.old.faults self.new.faults result }
         ensures missed { CountsFault self.old.missed self.new.missed result }
     {

@@ -1,5 +1,6 @@
 use Rattle.std.proofs.Common.{refl, sym, subst, append-nil}
 use Rattle.lane_worker.specs.Works.{site}
+use Rattle.lane_worker.proofs.GivenItems.{takes_item, feed_same}
 use Rattle.lane_changes.specs.declared.types.Next.{Next}
 use Rattle.lane_changes.specs.Stints.{WaitStint, FailedStint, Fits}
 use Rattle.lane_changes.specs.Changes.{WentAt, BrokeAt}
@@ -28,7 +29,7 @@ returns-in-Ok-clause-goes g c = λ first start is.
     (site g.C.Caller g.L.Cell g.L.Gate first start) (site g.C.Caller g.L.Cell g.L.Gate here c.args.lane.now) (site g.C.Caller g.L.Cell g.L.Gate here c.next.new.self)
     c.args.number c.args.course.now c.add_item.new.self (WaitStint c.in-Ok.item) is c.add_item.ensures
     (subst (λ (n : Next). Fits n (WaitStint c.in-Ok.item)) (sym c.requires.next) tt)
-    (record { takes = record { next = gives.item.0; left = gives.item.1; cell = gives.cause; opened = law.0; gate = law.1 }; caller = refl })
+    (record { takes = takes_item (site g.C.Caller g.L.Cell g.L.Gate here c.args.lane.now) (site g.C.Caller g.L.Cell g.L.Gate here c.next.new.self) c.in-Ok.item c.in-Ok.item refl gives.item gives.cause law.0 law.1; caller = refl })
     (λ asks is. subst reached (sym (append-nil asks)) is)
 
 pub returns-in-Err-clause-goes : goal.returns-in-Err-clause-goes
@@ -40,5 +41,5 @@ returns-in-Err-clause-goes g c = λ first start is.
     (site g.C.Caller g.L.Cell g.L.Gate first start) (site g.C.Caller g.L.Cell g.L.Gate here c.args.lane.now) (site g.C.Caller g.L.Cell g.L.Gate here c.next.new.self)
     c.args.number c.args.course.now c.add_failure.new.self FailedStint is c.add_failure.ensures
     (subst (λ (n : Next). Fits n FailedStint) (sym c.requires.next) tt)
-    (record { caller = refl; left = c.in-Err.ensures.item; failed = c.in-Err.ensures.cause; opened = law.0; gate = law.1 })
+    (record { caller = refl; feed = feed_same _ _ _ c.in-Err.ensures.item; failed = c.in-Err.ensures.cause; opened = law.0; gate = law.1 })
     (λ asks is. subst reached (sym (append-nil asks)) is)

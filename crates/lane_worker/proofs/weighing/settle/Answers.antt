@@ -15,7 +15,7 @@ returns-in-Ok-clause-goes g c = λ first start number batch has.
     let opened = c.args.progress.now.opened in
     settles_open later was mid now number batch c.in-Some.pack opened
     (subst (λ (p : Option ℕ). HasWeighed later was mid number batch p opened) c.in-Some.is has)
-    (record { asks = refl; opened = c.in-Ok.ensures.opened; left = law.0; cell = law.1 }) c.in-Ok.ensures.cause
+    (record { asks = refl; opened = c.in-Ok.ensures.opened; feed = law.0; cell = law.1 }) c.in-Ok.ensures.cause
 
 pub returns-in-Err-clause-goes : goal.returns-in-Err-clause-goes
 returns-in-Err-clause-goes g c = λ first start number batch has.
@@ -27,4 +27,4 @@ returns-in-Err-clause-goes g c = λ first start number batch has.
     let opened = c.args.progress.now.opened in
     settles_shut later was mid now number batch c.in-Some.pack opened
     (subst (λ (p : Option ℕ). HasWeighed later was mid number batch p opened) c.in-Some.is has)
-    (record { asks = refl; opened = c.in-Err.ensures.opened ∙ packs_none mid.opened; left = law.0; cell = law.1 }) c.in-Err.ensures.cause
+    (record { asks = refl; opened = c.in-Err.ensures.opened ∙ packs_none mid.opened; feed = law.0; cell = law.1 }) c.in-Err.ensures.cause
