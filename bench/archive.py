@@ -1,6 +1,7 @@
-"""Run by bench/archive.sh: FOLDER ROWS BOOKS KIND. A book of so many rows is taken in, its register is
-printed, and questions are asked over as many books like it. Prints seconds of the clock, and of a
-processor, with what the server of PostgreSQL takes: where others take the machine's these count."""
+"""Run by bench/archive.sh: FOLDER ROWS BOOKS KIND. A book of so many rows is taken in, its register
+is printed, and questions are asked over as many books like it. Prints seconds of the clock, and of
+a processor, with what the server of PostgreSQL takes: where others take the machine's these
+count."""
 
 import os
 import sys

@@ -6,6 +6,7 @@ from collections.abc import Callable, Iterator
 from typing import Any, NamedTuple
 
 from archive_books import BEGIN, DAY
+from archive_plans import Plans
 
 from hall_archive import nets
 from hall_archive.packs import Wanted
@@ -102,6 +103,7 @@ def ask_all(kind: str, search: Search, rows: int, used: Callable[[], float]) -> 
     """Asks each question twice; the longest ones are said, and how many took longer than the aim.
     `used` are the seconds of a processor that this process and the server took so far."""
     took: list[Took] = []
+    plans = Plans(search.engine)
     for questions in (of_packs, of_acts, of_batches):
         for said, ask in questions(search, rows):
             took.append(Took(*seconds(ask, used), *seconds(ask, used), said))
@@ -113,6 +115,11 @@ def ask_all(kind: str, search: Search, rows: int, used: Callable[[], float]) -> 
     )
     for one in sorted(took, key=lambda one: -one.processor)[:15]:
         print(f"archive: {kind}, {one}", flush=True)
+    whole = plans.whole()
+    all_rows = f"{len(whole)} plans read all rows of a table or a book"
+    print(f"archive: {kind}, {len(plans.asked)} statements, {all_rows}", flush=True)
+    for said in whole:
+        print(f"archive: {kind}, {said}", flush=True)
 
 
 def seconds(ask: Callable[[], Any], used: Callable[[], float]) -> tuple[float, float]:

@@ -12,6 +12,7 @@ HERE = os.path.dirname(os.path.realpath(__file__))
 sys.path[:0] = [f"{HERE}/../archive", f"{HERE}/../tests"]
 
 from archive_books import make_book  # noqa: E402
+from archive_plans import Plans  # noqa: E402
 from archive_room import Postgres  # noqa: E402
 from months_books import first_book, months  # noqa: E402
 
@@ -52,19 +53,21 @@ def timed(
 def reports(kind: str, url: str, lines: list[str], server: Postgres | None = None) -> None:
     engine = store.open_engine(url, True)
     store.migrate(engine)
-    kept = timed(f"{kind}, {len(lines)} rows taken in and summed", lambda: first_book(engine, lines),
-                 server, 1)  # fmt: skip
+    words = f"{kind}, {len(lines)} rows taken in and summed"
+    kept = timed(words, lambda: first_book(engine, lines), server, 1)
     began = time.monotonic()
     months(kept, HALLS, BOOKS, 1)
     say(f"{kind}, {HALLS} halls of {BOOKS} books made in {time.monotonic() - began:.0f} s")
     reads = store.open_engine(url)
-    asked = Reports(reads)
+    asked, plans = Reports(reads), Plans(reads)
     halls = tuple(f"hall{at}" for at in range(1, HALLS + 1))
     for by in ("shift", "day", "product"):
         for some in (halls[:1], halls):
             words = f"{kind}, a month by {by} of {len(some)} halls of {BOOKS} books"
             timed(words, lambda: report(asked, by, some), server)
     search(kind, Finding(reads), halls, server)
+    whole = plans.whole()
+    say(f"{kind}, {len(plans.asked)} statements, {len(whole)} plans read all rows: {whole}")
     found = report(asked, "shift", halls[:1])
     if server is None:
         for form in ("csv", "xlsx", "pdf"):
@@ -116,9 +119,10 @@ def followers(folder: str) -> None:
         served = 100 * (server.seconds() - used) / passed
         parts = [sum(float(one[at]) for one in told) for at in range(3)]
         say(
-            f"{HALLS} halls of {RATE} rows a second, {SECONDS} s: {parts[2]:.0f} rows delivered; the"
-            f" server {served:.1f} % of a processor, delivering {parts[1]:.1f} % in all, together"
-            f" {served + parts[1]:.1f} %; following into their own SQLite {parts[0]:.1f} %"
+            f"{HALLS} halls of {RATE} rows a second, {SECONDS} s: {parts[2]:.0f} rows delivered;"
+            f" the server {served:.1f} % of a processor, delivering {parts[1]:.1f} % in all,"
+            f" together {served + parts[1]:.1f} %; following into their own SQLite"
+            f" {parts[0]:.1f} %"
         )
         [(bytes_of,)] = Reports(store.open_engine(server.url)).ask(
             "SELECT pg_database_size('archive')"

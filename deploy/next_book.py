@@ -73,6 +73,12 @@ def batches(listing: str) -> list[Batch]:
     return [Batch(words[1], words[3], words[5]) for words in found]
 
 
+def by_volume(listing: str) -> set[str]:
+    """The products of a list that are measured in ml."""
+    lines = [line.split(" ") for line in listing.splitlines()]
+    return {words[1] for words in lines if words[0] == "product" and words[4] == "ml"}
+
+
 def still_open(listing: str) -> list[str]:
     """The batches that have no verdict yet."""
     return [batch.name for batch in batches(listing) if batch.state != "closed"]

@@ -16,7 +16,7 @@ SETTLED = ("env", "toml", "metrics.toml")
 
 
 class HandOver:
-    """The steps while the lanes stand."""
+    """The steps until lanes weigh again: while they stand from `stop` to `serve`."""
 
     def __init__(self, move: Move) -> None:
         self.move, self.place = move, move.place
@@ -24,6 +24,7 @@ class HandOver:
     def run(self) -> None:
         move = self.move
         for name, work in (
+            ("lanes", self.note_lanes),
             ("aside", self.aside),
             ("stop", self.stop),
             ("make", self.make),
@@ -33,6 +34,31 @@ class HandOver:
             ("lead", self.lead),
         ):
             move.step(name, work)
+
+    def note_lanes(self) -> None:
+        """The batches that lanes weigh: what opens them again, product and density by volume."""
+        move = self.move
+        lanes = [] if move.known["plan"] else self.lanes()
+        names = {lane.batch for lane in lanes if lane.batch}
+        listing = self.place.seen(move.book(move.old)) if names else ""
+        of = {batch.name: batch.product for batch in next_book.batches(listing)}
+        if lacks := sorted(names - of.keys()):
+            raise Failed(f"a lane weighs {lacks[0]}, which {move.old} lacks")
+        by_volume = next_book.by_volume(listing)
+        move.keep(
+            opened={
+                name: of[name] + (self.density(name) if of[name] in by_volume else "")
+                for name in sorted(names)
+            }
+        )
+
+    def density(self, batch: str) -> str:
+        said = self.place.of_served("report", self.move.book(self.move.old), "--batch", batch)
+        return f" {said.splitlines()[0].rpartition(' density ')[2]}"
+
+    def lanes(self) -> list[next_book.Lane]:
+        plan = read(self.move.setting(self.move.old, "toml"))
+        return next_book.lanes_of(self.place.run([f"{self.place.lib}/planned"], plan))
 
     def aside(self) -> None:
         """What follows the old book at its doors ends before another book is served there."""
@@ -69,28 +95,6 @@ class HandOver:
         sync(path)
         os.replace(path, move.book(move.new))
         sync(place.books)
-        move.keep(opened=self.opened(listing))
-
-    def opened(self, listing: str) -> dict[str, str]:
-        """By the names of the batches that lanes weigh: product, and density by volume."""
-        move = self.move
-        of = {batch.name: batch.product for batch in next_book.batches(listing)}
-        found = {}
-        for lane in self.lanes():
-            if lane.batch and not move.known["plan"]:
-                if lane.batch not in of:
-                    raise Failed(f"lane {lane.number} weighs {lane.batch}, which {move.old} lacks")
-                found[lane.batch] = f"{of[lane.batch]}{self.density(lane.batch)}"
-        return found
-
-    def density(self, batch: str) -> str:
-        said = self.place.of_hall("report", self.move.book(self.move.old), "--batch", batch)
-        _, _, grams = said.split("\n")[0].partition(" density ")
-        return f" {grams}" if grams else ""
-
-    def lanes(self) -> list[next_book.Lane]:
-        plan = read(self.move.setting(self.move.old, "toml"))
-        return next_book.lanes_of(self.place.run([f"{self.place.lib}/planned"], plan))
 
     # ---- its settings, and its hall
 

@@ -127,9 +127,12 @@ class Place:
     def listing(self, path: str) -> str:
         return self.of_hall("list", path)
 
+    def of_served(self, command: str, path: str, *words: str) -> str:
+        """What the program says of a book that may be served: then without its newest row."""
+        return self.run(self.as_user("hall", [self.hall, command, "--book", path, *words]))
+
     def seen(self, path: str) -> str:
-        """The list of a book that is served, without its newest row."""
-        return self.run(self.as_user("hall", [self.hall, "list", "--book", path]))
+        return self.of_served("list", path)
 
     def ask(self, port: int) -> str:
         """The summary that a door says; the walls let the group hall-doors ask. Empty without an

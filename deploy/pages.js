@@ -1,6 +1,6 @@
-// The pages as the front sends them: without their comments and the blanks before a line, which are
-// for whoever changes them. The files stay as they are, and each line keeps its number. Run by
-// nginx (njs 0.7).
+// The pages as the front sends them: without their comments, the blanks before a line, and in a
+// style those beside its marks, which are for whoever changes them. The files stay as they are, and
+// each line keeps its number. Run by nginx (njs 0.7).
 
 const SCRIPT = 'application/javascript';
 const STYLE = 'text/css';
@@ -8,6 +8,9 @@ const BLANKS = new RegExp('^[ \\t]+', 'gm');
 // A comment that has whole lines to itself.
 const OF_SCRIPT = new RegExp('^//.*$', 'gm');
 const OF_STYLE = new RegExp('^/\\*[\\s\\S]*?\\*/$', 'gm');
+// Blanks of a style that part nothing.
+const AFTER = new RegExp('([:;,{]) ', 'g');
+const BEFORE = new RegExp(' ([{}])', 'g');
 
 // What came of this answer so far; each answer has a memory of its own.
 let held = '';
@@ -20,7 +23,8 @@ function isSlimmed(r) {
 function slimmed(text, kind) {
     const isStyle = kind.startsWith(STYLE);
     const lines = (comment) => comment.replace(/[^\n]+/g, '');
-    return text.replace(BLANKS, '').replace(isStyle ? OF_STYLE : OF_SCRIPT, lines);
+    const bare = text.replace(BLANKS, '').replace(isStyle ? OF_STYLE : OF_SCRIPT, lines);
+    return isStyle ? bare.replace(AFTER, '$1').replace(BEFORE, '$1') : bare;
 }
 
 // The length of a slimmed answer isn't that of its file.

@@ -7,7 +7,7 @@
 #           stores hold that isn't theirs
 #   pages   each page at five sizes, light and dark, in both languages, with four lanes and long
 #           names: no text cut or overlapping, contrast, labels and roles
-#   boards  the same for boards of 1 and 16 lanes, all names of 32 letters
+#   boards  the same for boards of 1 and 16 lanes, all names of 32 letters, and of 6 and 10
 #   sizes   bytes that each page loads, what the key Tab comes by, no layout shift as packs come
 #   load    the board with 16 lanes at 20 packs a second each, an hour of it, 10 000 packs drawn
 #   chart   a batch of 10 000 packs through the front: from the click to its chart, and to its

@@ -16,8 +16,8 @@ from front_room import NAME, SHOWN, TOP, Front, make_hall, run, wait_until
 from rows import rows_behind
 from screen_room import DAY, PEOPLE
 from screen_verdict import (
-    end_and_draw, end_day, look_at_charts, look_at_sheet, measure_together, second_and_verdict,
-    void_a_pack, weigh,
+    end_and_draw, end_day, look_at_charts, look_at_sheet, measure_together, pick,
+    second_and_verdict, void_a_pack, weigh,
 )
 
 SEED = 45
@@ -366,6 +366,7 @@ def work(day):
     weigh(day, anna, wall)
     void_a_pack(day, anna)
     end_and_draw(anna)
+    pick(day, anna)
     measure_together(day, anna, ben)
     second_and_verdict(day, anna)
     look_at_charts(day, anna, ben)

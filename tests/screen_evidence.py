@@ -1,6 +1,8 @@
 """Evidence on the screen: a part of tests/screen.py. A hall at work, the archive that follows it, and
 a browser: a tare and a check of a scale are entered, the act is offered, the newest stands on a
-batch's sheet, and what is overdue, or differs from the book, is an alarm of the board."""
+batch's sheet, with the fingerprint at its closing, and what is overdue, or differs from the book, is
+an alarm of the board. What the archive adds to pages is looked at in each size, scheme and
+language."""
 
 # mypy: allow-untyped-calls, allow-untyped-defs
 
@@ -17,7 +19,8 @@ from archive_hall import ARCHIVE_PORT, PEOPLE, Work, now
 from archive_room import Room, wait
 from browser import Browser
 from clients import need
-from front_room import Front
+from front_room import Front, run
+from screen_pages import LANGUAGES, Faults, look, open_page, set_language
 
 from hall_archive import evidence, store
 from hall_archive.acts import Acts
@@ -77,6 +80,9 @@ def entered(place):
     wait(lambda: "in order" in form.text, "the scale is in order", 30)
     form = place.enter("tare", "P", nominal="250", empties="\n".join(map(spelled, EMPTIES)))
     wait(lambda: "in order" in form.text, "the tare is in order", 30)
+    typed = place.anna.text("#e-tare-empties ~ .hint")
+    # the values are 7 mg apart: s is 7 times the root of 82.5 / 9
+    need(typed.startswith("10 so far: mean 10.03") and "s 0.021 g" in typed, f"typed: {typed}")
     newest = place.anna.text("#evidence table")
     need("Check of a scale" in newest and "anna" in newest, f"the newest: {newest}")
     form.find_element("css selector", "button[type=button]").click()
@@ -99,6 +105,44 @@ def on_a_sheet(place):
     said = place.anna.wait_text(".sh-evidence", "Tare of a product, P")
     need("Check of a scale, 1" in said and "other" not in said, f"the sheet: {said}")
     need("Who and when" in said and "opened" in said, f"the sheet: {said}")
+
+
+def closed(place):
+    """The sheet of a closed batch has the fingerprint of the book at its closing, as the program
+    says it; who measured and closed it, and when."""
+    place.work.end()
+    place.work.begin()
+    # the other desk is the page's
+    place.work.desks[1].test("R1")
+    fingerprints = place.room.fingerprints()
+    wait(lambda: place.room.fingerprints() > fingerprints, "a fingerprint of the closing", 120)
+    place.anna.open("sheet/R1")
+    place.anna.reload()
+    said = place.anna.wait_text(".sh-print", "Fingerprint of rows 1 to", 120)
+    rows = said.split("--rows ")[1].split(" ")[0]
+    audit = run(place.work.program, "audit", "--book", place.work.path, "--rows", rows)
+    shown = place.anna.text(".sh-print .mono").replace(" ", "")
+    need(len(shown) == 64 and f"sha256 {shown}" in audit, f"the sheet has {shown} for {audit}")
+    said = place.anna.text(".sh-evidence")
+    need("packs measured" in said and "ben: asked for" in said, f"the sheet: {said}")
+
+
+def look_at_all(place, pictures):
+    """Each page that the archive adds to, with what it adds."""
+    faults = Faults()
+    for language in LANGUAGES:
+        set_language(place.anna, language)
+        for page, selector, name in (
+            ("board", "ol.alarms .warn", "archive board"),
+            ("lane/1", ".st-help.calls", "archive lane calls"),
+            ("lane/2", ".st-help:not([hidden])", "archive lane"),
+            ("sheet/R1", ".sh-print", "archive sheet"),
+            ("evidence", "#evidence table", "archive evidence"),
+        ):
+            open_page(place.anna, page, selector)
+            look(place.anna, name, language, faults, pictures)
+    set_language(place.anna, "en")
+    print(f"evidence: {faults.tell()} views of what an archive adds, no fault", flush=True)
 
 
 def call_for_help(place):
@@ -163,6 +207,11 @@ def run_evidence(program, folder, pictures):
         call_for_help(place)
         took = overdue(place)
         place.anna.picture(f"{pictures}/evidence_board.png")
+        closed(place)
+        place.anna.open("lane/1")
+        place.anna.find(".st-help").click()
+        place.anna.wait_text(".st-help", "Help has come", 60)
+        look_at_all(place, pictures)
         without(place)
     except BaseException:
         place.anna.picture(f"{pictures}/evidence_fault.png")

@@ -10,9 +10,10 @@ from screen_room import Room, good, grams, opening, weighing
 
 SIZES = [(1920, 1080), (1280, 800), (1024, 768), (768, 1024), (390, 844)]
 LANGUAGES = ["en", "de"]
-# Which sizes are looked at in which scheme: over both languages each size stands in light and dark,
-# and each language in each size and each scheme.
-VIEWS = {
+SCHEMES = ["light", "dark"]
+# Of which sizes a picture is taken in which scheme, to be looked at: over both languages each size
+# stands in light and dark, and each language in each size and each scheme.
+PICTURED = {
     "en": {"light": [0, 2, 4], "dark": [1, 3]},
     "de": {"light": [1, 3], "dark": [0, 2, 4]},
 }
@@ -44,13 +45,13 @@ class Faults:
 
 
 def look(browser, name, language, faults, pictures):
-    """The page that is shown, in the sizes and schemes of a language; a picture of each."""
+    """The page that is shown, in each size and scheme; pictures of half of them."""
     with open(CHECKS, encoding="utf-8") as source:
         browser.run(source.read())
-    for scheme, sizes in VIEWS[language].items():
+    for scheme in SCHEMES:
         browser.driver.execute_cdp_cmd("Emulation.setEmulatedMedia", {
             "features": [{"name": "prefers-color-scheme", "value": scheme}]})
-        for width, height in (SIZES[at] for at in sizes):
+        for at, (width, height) in enumerate(SIZES):
             browser.view(width, height)
             # two frames, so that what is drawn by its size is drawn
             browser.driver.execute_async_script(
@@ -58,7 +59,9 @@ def look(browser, name, language, faults, pictures):
             time.sleep(0.15)
             where = f"{name} {language} {width} x {height} {scheme}"
             faults.add(where, browser.run("return hallChecks.all()"))
-            browser.picture(f"{pictures}/{name.replace(' ', '_')}_{language}_{width}_{scheme}.png")
+            if at in PICTURED[language][scheme]:
+                picture = f"{name.replace(' ', '_')}_{language}_{width}_{scheme}"
+                browser.picture(f"{pictures}/{picture}.png")
     browser.view(1280, 800)
 
 
@@ -133,6 +136,7 @@ PAGES = [
     (f"batch/{LONG}", "#batch svg.figure", "batch long"),
     ("desk", "#desk .task", "desk"), ("desk/RICE-1130-C", "#desk .step.draw", "desk draw"),
     ("desk/RICE-1130-D", "#desk .step.measure", "desk measure"),
+    ("picks/RICE-1130-D", "#picks table", "picks"),
     (f"desk/{LONG}", "#desk .step.held", "desk held"),
     ("sheet/RICE-1130-E", "#sheet .paper", "sheet"),
     (f"sheet/{LONG}", "#sheet .paper", "sheet open"),
@@ -157,12 +161,11 @@ def look_at_modes(room, browser, language, faults):
     """Measuring, the form of an act with a fault, the void of a pack."""
     browser.open("desk")
     browser.find("#my-desk").send_keys("101")
-    browser.open("desk/RICE-1130-D")
-    browser.find(".go-measure").click()
+    browser.open("measure/RICE-1130-D")
     browser.find("#m-gross").send_keys("26,2\n")
     wait_until(lambda: browser.text(".m-far"), "a far weight is asked twice", 60)
     look(browser, "measuring", language, faults, room.pictures)
-    browser.find(".measuring button.second").click()
+    browser.find(".m-leave").click()
     browser.find("#open-product").click()
     browser.find("#act-product [name=nominal]").send_keys("4.9\n")
     look(browser, "act", language, faults, room.pictures)
@@ -175,9 +178,10 @@ def look_at_modes(room, browser, language, faults):
 
 
 def look_at_boards(room, faults):
-    """The board with 1 and 16 lanes, all names of 32 letters."""
-    for lanes in (1, 16):
-        names = [f"{LONG[:-2]}{number:02}" for number in range(lanes)]
+    """The board with 1 and 16 lanes, all names of 32 letters, and with 6 and 10 of usual names:
+    these have forms of their own."""
+    for lanes, stem in ((1, LONG[:-2]), (6, "RICE-1201-"), (10, "SALT-1201-"), (16, LONG[:-2])):
+        names = [f"{stem}{number:02}" for number in range(lanes)]
         lines = opening([LONG_PRODUCT])
         for lane, name in enumerate(names, 1):
             lines += [f"open {name} {LONG_PRODUCT}"]

@@ -65,8 +65,7 @@ def take_measuring(browser, pictures):
     browser.view(1280, 800)
     browser.open("desk")
     browser.find("#my-desk").send_keys("101")
-    browser.open("desk/RICE-1130-D")
-    browser.find(".go-measure").click()
+    browser.open("measure/RICE-1130-D")
     for text in ("261.4", "262.93"):
         browser.find("#m-gross").send_keys(f"{text}\n")
         time.sleep(2)

@@ -4,6 +4,7 @@ tests/screen.py."""
 
 # mypy: allow-untyped-calls, allow-untyped-defs
 
+import json
 import os
 import sys
 from datetime import datetime
@@ -34,6 +35,7 @@ database = "sqlite:///FOLDER/archive.db"
 folder = "FOLDER"
 program = "PROGRAM"
 books = "FOLDER"
+front = "FOLDER/acts.log"
 [reports]
 zone = "Europe/Berlin"
 aim = 0.8
@@ -54,9 +56,9 @@ def day_script(draw, day):
         packs = [gross - fall for gross in good(draw, PACKS + 10 * day)]
         packs[20:26] = [251_000, 240_000, 250_200, 243_000, 250_300, 250_100]
         half = len(packs) // 2
-        lines += [f"@101 {6 * place + 1} open {name} {product}"]
+        lines += [f"@101 {2 * place + 1} open {name} {product}"]
         lines += weighing(1, name, packs[:half]) + weighing(2, name, packs[half:])
-        lines += [f"@101 {6 * place + 2} end {name}", f"@102 {place + 1} draw {name} keep {day}",
+        lines += [f"@101 {2 * place + 2} end {name}", f"@102 {place + 1} draw {name} keep {day}",
                   f"sample {name}"]
     return lines
 
@@ -82,6 +84,7 @@ def make_books(program, folder, draw):
         names.append(f"2025-03-{day:02}")
         path = f"{folder}/{names[-1]}.book"
         said = run(program, "run", "--book", path, input="\n".join(day_script(draw, day)) + "\n")
+        need("refused" not in said, f"a day that is refused: {said[-500:]}")
         run(program, "run", "--book", path,
             input="\n".join(closings(said, f"RICE-03{day:02}-0" if day == 6 else "")) + "\n")
     return names
@@ -95,9 +98,21 @@ def begin_of(name):
     return int(day.timestamp()) * 1000
 
 
+def refuse(path, names):
+    """What the front says of refused acts, some on each day."""
+    with open(path, "w", encoding="utf-8") as file:
+        for place, name in enumerate(names):
+            body = {"act": ("close", "draw", "void")[place % 3], "desk": 101, "request": 9}
+            said = {"time": f"{begin_of(name) / 1000:.3f}", "took": "0.010", "book": name,
+                    "person": ("anna", "ben")[place % 2], "status": "409", "row": "9",
+                    "body": json.dumps(body)}  # fmt: skip
+            file.write(json.dumps(said) + "\n")
+
+
 def make_archive(program, folder, names):
     """The archive of these books, with hours and persons that they would have, and of the book that
     the front shows."""
+    refuse(f"{folder}/acts.log", names)
     settings = f"{folder}/archive.toml"
     books = "".join(f'[[book]]\nhall = "main"\nname = "{name}"\n' for name in ["day", *names])
     with open(settings, "w", encoding="utf-8") as file:

@@ -9,10 +9,10 @@ from selenium.webdriver.common.keys import Keys
 from clients import need
 from screen_pages import make_room, open_page, set_language
 
-# Bytes that a page may load in all, and as the front sends them.
+# Bytes that a page may load as it opens, and as the front sends them; and with what a person opens
+# on it: the form of an act, the void of a pack.
 PAGE_BYTES, SENT_BYTES = 100_000, 35_000
-# What a mode that a person opens may add: measuring, the void of a pack.
-MODE_BYTES, MODE_SENT = 20_000, 8_000
+ALL_BYTES, ALL_SENT = 100_000, 35 * 1024
 
 
 def shifts(browser, since):
@@ -62,9 +62,9 @@ def loaded(browser):
             all.filter((one) => !one.name.startsWith(location.origin)).map((one) => one.name)]""")
 
 
-def measure_pack(browser):
-    browser.find(".go-measure").click()
-    browser.find("#m-gross")
+def open_act(browser):
+    browser.find("#open-void").click()
+    browser.find("#act-void")
 
 
 def void_pack(browser):
@@ -73,19 +73,22 @@ def void_pack(browser):
     browser.find("dialog .ends .second").click()
 
 
-# Each page, what stands on it when it is there, and a mode of it that loads more when it is opened.
+# Each page, what stands on it when it is there, and what of it loads more when a person opens it.
 LOADED = [
     ("board", "#board .strip", None),
     ("lane/1", "#lane .st-signal", void_pack),
     ("batch/RICE-1201-A", "#batch svg.figure", None),
-    ("desk/RICE-1130-D", "#desk .step.measure", measure_pack),
+    ("desk/RICE-1130-D", "#desk .step.measure", open_act),
+    ("measure/RICE-1130-D", "#measure #m-gross", None),
+    ("picks/RICE-1130-D", "#picks table", None),
     ("sheet/RICE-1130-E", "#sheet .paper", None),
     ("search", "#search .notice", None),
 ]
 
 
 def check_size(browser):
-    """Each page loads itself alone, from here alone, and is small; so is what a mode adds."""
+    """Each page loads itself alone, from here alone, and is small, also with what is opened on
+    it."""
     for page, selector, open_mode in LOADED:
         browser.driver.get("about:blank")
         open_page(browser, page, selector)
@@ -96,9 +99,9 @@ def check_size(browser):
         if open_mode:
             open_mode(browser)
             all_size, all_sent, elsewhere = loaded(browser)
-            need(all_size - size <= MODE_BYTES and all_sent - sent <= MODE_SENT and not elsewhere,
-                 f"a mode of {page} loads {all_size - size} more, {all_sent - sent} as sent")
-            more = f"; {all_size - size} more with its mode, {all_sent - sent} as sent"
+            need(all_size <= ALL_BYTES and all_sent <= ALL_SENT and not elsewhere,
+                 f"{page} loads {all_size} with what is opened, {all_sent} as sent")
+            more = f"; {all_size} with what is opened on it, {all_sent} as sent"
         print(f"screen: the page {page.split('/')[0]} loads {size} bytes, {sent} as sent{more}",
               flush=True)
 
@@ -110,6 +113,8 @@ NAMED = "const named = (one) => one.id || one.outerHTML.slice(0, 90);"
 def check_keyboard(browser):
     """The key Tab comes by everything that can be used, on each page."""
     for page, selector in (("board", "#board .strip"), ("desk/RICE-1130-C", "#desk .step.draw"),
+                           ("measure/RICE-1130-D", "#measure #m-gross"),
+                           ("picks/RICE-1130-D", "#picks table"),
                            ("batch/RICE-1201-A", "#batch svg.figure"),
                            ("sheet/RICE-1130-E", "#sheet .paper"), ("lane/1", "#lane .st-signal")):
         open_page(browser, page, selector)

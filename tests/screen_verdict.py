@@ -7,10 +7,12 @@ import subprocess
 import threading
 import time
 
+from selenium.common.exceptions import ElementNotInteractableException
 from selenium.webdriver.common.keys import Keys
 
 from clients import need
 from front_room import SHOWN, run, wait_until
+from screen_load import run_async
 from screen_room import DAY, slowly
 
 # Milliseconds in which a chart of a thousand packs has to be drawn.
@@ -81,6 +83,7 @@ def begin_measuring(browser):
     browser.open("desk/MORNING")
     browser.find(".go-measure").send_keys(Keys.ENTER)
     browser.wait_text(".m-at", "of 30")
+    need(browser.run("return location.hash") == "#measure/MORNING", "measuring has an address")
 
 
 def shown_pack(browser):
@@ -93,20 +96,34 @@ def is_far_off(browser):
     return "was typed" in browser.text(".m-far")
 
 
+def is_measured(browser):
+    return "are measured" in browser.text(".m-at")
+
+
 def measure_on(browser, light):
-    """Measures by the keyboard alone until no pack is left; says how many were asked."""
+    """Measures by the keyboard alone until no pack is left, also by another desk; says how many
+    were asked."""
     asked = 0
-    while "are measured" not in browser.text(".m-at"):
+    while not is_measured(browser):
         pack = shown_pack(browser)
         field = browser.driver.switch_to.active_element
-        need(field.get_attribute("id") == "m-gross", f"at pack {pack} the field has no focus")
-        field.send_keys("250.5" if pack in light else "262.12 g", Keys.ENTER)
-        wait_until(lambda: shown_pack(browser) != pack or is_far_off(browser), f"{pack}", 60)
-        if shown_pack(browser) == pack and is_far_off(browser):
-            field.send_keys(Keys.ENTER)
-        wait_until(lambda: shown_pack(browser) != pack, f"behind {pack} comes another", 60)
+        if field.get_attribute("id") != "m-gross":
+            need(is_measured(browser), f"at pack {pack} the field has no focus")
+            break
+        try:
+            measure_one(browser, field, pack, "250.5" if pack in light else "262.12 g")
+        except ElementNotInteractableException:
+            need(is_measured(browser), f"at pack {pack} nothing can be typed")
         asked += 1
     return asked
+
+
+def measure_one(browser, field, pack, weight):
+    field.send_keys(weight, Keys.ENTER)
+    wait_until(lambda: shown_pack(browser) != pack or is_far_off(browser), f"{pack}", 60)
+    if shown_pack(browser) == pack and is_far_off(browser):
+        field.send_keys(Keys.ENTER)
+    wait_until(lambda: shown_pack(browser) != pack, f"behind {pack} comes another", 60)
 
 
 def drawn(program, book, batch):
@@ -118,6 +135,32 @@ def drawn(program, book, batch):
     words = said.split()[3:]
     cut = words.index("second") if "second" in words else -1
     return [int(word) for word in words[cut + 1:]]
+
+
+def pick(day, anna):
+    """The pick list has each drawn pack once, by lane and by its place there; its labels are
+    ZPL."""
+    first = drawn(day.program, day.book, "MORNING")
+    weighed_at = [row.number for row in day.rows() if row.act["act"] == "weigh"
+                  and row.act["lane"] == 1]
+    anna.open("desk/MORNING")
+    anna.find("#desk .step.measure a.second").send_keys(Keys.ENTER)
+    anna.find("#picks table")
+    listed = anna.run("""return [...document.querySelectorAll("#picks tbody tr")]
+        .map((row) => [...row.children].map((one) => one.textContent))""")
+    expected = [[str(pack), "1", str(weighed_at.index(pack) + 1), str(first.index(pack) + 1)]
+                for pack in sorted(first)]
+    found = [[plain(cells[at]) for at in (0, 1, 2, 4)] for cells in listed]
+    need(found == expected, f"the pick list has {found} for {expected}")
+    labels = run_async(anna, """
+        const { zplOf } = await import("./picks.js");
+        return zplOf("MORNING", [{ number: 7, lane: 1 }, { number: 10123, lane: 2 }])""")
+    need(labels.count("^XA") == labels.count("^XZ") == 2 and "^FD10123^FS" in labels
+         and "^FD2/2  L2^FS" in labels, f"the labels are {labels}")
+    anna.picture(f"{day.pictures}/picks.png")
+    pages = anna.paper(f"{day.pictures}/picks_paper")
+    need(pages == 1, f"a pick list of 30 is printed on {pages} pages")
+    print("screen: the pick list has each drawn pack by its place on its lane", flush=True)
 
 
 def measure_together(day, anna, ben):
@@ -146,7 +189,7 @@ def second_and_verdict(day, anna):
     anna.told(anna.act("second", batch="MORNING"), "Done")
     begin_measuring(anna)
     measure_on(anna, set())
-    anna.find("#m-gross, .measuring button").send_keys(Keys.ESCAPE)
+    anna.find(".m-leave").send_keys(Keys.ESCAPE)
     anna.find("#step-close button").send_keys(Keys.ENTER)
     anna.wait_text("#desk .work", "released", 60)
     anna.picture(f"{day.pictures}/verdict.png")

@@ -5,12 +5,13 @@ usage: tests/sender.py      no program is needed: the hall does what docs/FORMAT
 
 Its numbers first: every order of lines, answers, good ends and kills up to a depth is gone through,
 beside a hall that does what FORMATS says: where connections are cut and their answers lost, with
-the book asked; and where none is cut, the hall slower than the sender waits, without the book. No
-weight stands twice, none is left out, and none is acknowledged that isn't there. Then the whole
-sender, as a process: lines that are too long and weights that are too great; a weight whose
-acknowledgement is lost at a good end, with the book asked and without; halls that are slower than
-the sender waits, and end; a lane that changes its batch, beside halls that end and connections that
-are cut. Done in 3 minutes, at most 10; status 1 at any difference.
+the book asked, the hall quick or slower than the sender waits; and where none is cut, the hall
+slower, without the book. No weight stands twice, none is left out, and none is acknowledged that
+isn't there. Then the whole sender, as a process: lines that are too long and weights that are too
+great; a weight whose acknowledgement is lost at a good end, with the book asked and without; halls
+that are slower than the sender waits, and end; lines that are slower than it waits, and are cut,
+beside halls that go on; a lane that changes its batch, beside halls that end and connections that
+are cut. Done in 5 minutes, at most 15; status 1 at any difference.
 """
 
 import os
@@ -18,6 +19,7 @@ import subprocess
 import sys
 import time
 from collections.abc import Callable
+from concurrent.futures import ThreadPoolExecutor
 
 HERE = os.path.dirname(os.path.abspath(__file__))
 SENDER = os.path.join(os.path.dirname(HERE), "examples", "scale_sender.py")
@@ -26,6 +28,7 @@ sys.dont_write_bytecode = True
 
 from operation_room import Tunnel  # noqa: E402  pylint: disable=wrong-import-position
 from sender_hall import LOOK, Hall  # noqa: E402  pylint: disable=wrong-import-position
+from sender_line import SlowLine  # noqa: E402  pylint: disable=wrong-import-position
 from sender_worlds import check_numbers, fail  # noqa: E402  pylint: disable=wrong-import-position
 
 # How many halls end of those that are slower than the sender waits.
@@ -34,6 +37,8 @@ ENDS = 20
 CHANGES = 10
 # How often a sender begins anew while the hall stays.
 ANEW = 6
+# How many slow lines are cut, so many at once, and how many weights come over each.
+LINES, AT_ONCE, FEW = 48, 8, 3
 
 
 def run_sender(port: int, words: list[str]) -> subprocess.Popen[str]:
@@ -88,6 +93,20 @@ def check_slow(words: list[str], through: Callable[[int], int]) -> None:
     if hall.rows != given:
         odd = [at for at, pair in enumerate(zip(hall.rows, given)) if pair[0] != pair[1]]
         fail(f"{words}: {len(hall.rows)} of {len(given)} weights, other ones from {odd[:1]} on")
+
+
+def check_line(seed: int) -> None:
+    """A line that holds lines back for longer than the sender waits, and is cut: a hall that goes
+    on has each weight once, under its number."""
+    hall = Hall()
+    line = SlowLine(hall.port, seed)
+    given = [f"{262 + at}.{seed:03}" for at in range(FEW)]
+    sender = run_sender(line.port, ["--seconds=0.25"])
+    told, said = sender.communicate("".join(f"{weight}\n" for weight in given), timeout=300)
+    wanted = [f"{number} {weight}" for number, weight in enumerate([*given, "end"], 1)]
+    # the hall may be gone from a line as the end is said
+    if hall.rows != given or told.splitlines()[:FEW] != wanted[:FEW]:
+        fail(f"a slow line, seed {seed}: {hall.rows} for {given}; {told!r} {said!r}")
 
 
 def check_batches(through: Callable[[int], int], cuts: int) -> None:
@@ -179,6 +198,10 @@ def main() -> None:
     check_batches(lambda port: Tunnel(port).port, 0)
     print(f"sender: {3 * ENDS * CHANGES} changes of a batch, beside {3 * ENDS} halls that end,"
           " connections that are cut and a tunnel: each weight once, under its batch")  # fmt: skip
+    with ThreadPoolExecutor(AT_ONCE) as pool:
+        list(pool.map(check_line, range(LINES)))
+    print(f"sender: {LINES} lines slower than it waits, and cut, to halls that go on: each weight"
+          " once")  # fmt: skip
     check_slow([], lambda port: port)
     check_slow(["--book"], lambda port: Tunnel(port).port)
     print(f"sender: {ENDS} ends of slow halls at their own port, and {ENDS} behind a tunnel with"

@@ -37,8 +37,9 @@ class World:
     """A sender, its connections and the hall at their other end, which takes lines in order."""
 
     numbers: Numbers
-    # whether connections are cut; else the hall may be slower than the sender waits
+    # whether connections are cut, and whether the hall may be slower than the sender waits
     is_cut: bool
+    is_slow: bool
     # what the present hall has taken, and the rows of all halls
     taken: int = 0
     rows: list[int] = field(default_factory=list)
@@ -46,8 +47,9 @@ class World:
     weight: int = 0
     is_connected: bool = False
     is_dead: bool = False
-    # whether a connection was left that hasn't ended
+    # whether a connection was left that hasn't ended, and whether one ended by itself
     is_one_left: bool = False
+    was_cut: bool = False
     lines: list[Way] = field(default_factory=list)
     answers: list[Way] = field(default_factory=list)
     # whether a line was said that hasn't been waited for
@@ -61,15 +63,17 @@ class World:
 
     def key(self) -> tuple[object, ...]:
         known = self.numbers
-        return (self.is_cut, known.acknowledged, tuple(known.tries), frozenset(known.said),
-                known.in_step, self.taken, tuple(self.rows), self.weight, self.is_connected,
-                self.is_dead, self.is_one_left, tuple(self.lines), tuple(self.answers),
-                self.was_said, self.is_settled, self.is_new, self.halls)  # fmt: skip
+        return (self.is_cut, self.is_slow, known.acknowledged, tuple(known.whole),
+                tuple(known.tries), frozenset(known.said), known.in_step, self.taken,
+                tuple(self.rows), self.weight, self.is_connected, self.is_dead, self.is_one_left,
+                self.was_cut, tuple(self.lines), tuple(self.answers), self.was_said,
+                self.is_settled, self.is_new, self.halls)  # fmt: skip
 
     def again(self) -> "World":
         """The same world, to be changed."""
         numbers = copy.copy(self.numbers)
-        numbers.tries, numbers.said = list(numbers.tries), set(numbers.said)
+        numbers.whole, numbers.tries = list(numbers.whole), list(numbers.tries)
+        numbers.said = set(numbers.said)
         return replace(self, numbers=numbers, rows=list(self.rows), lines=list(self.lines),
                        answers=list(self.answers))  # fmt: skip
 
@@ -78,6 +82,7 @@ class World:
         self.lines = [way for way in self.lines if way[1] is not Heard.HERE]
         self.answers = [way for way in self.answers if way[1] is not Heard.HERE]
         self.is_connected = self.is_dead = self.was_said = False
+        self.was_cut = True
 
     def change(self, before: Heard, after: Heard) -> None:
         """A connection is heard in another way."""
@@ -88,6 +93,7 @@ class World:
     def leave(self) -> None:
         """The sender leaves the connection, and hears on."""
         self.is_one_left = self.is_one_left or not self.is_dead
+        self.was_cut = self.was_cut or self.is_dead
         self.change(Heard.HERE, Heard.LEFT)
         self.is_connected = self.is_dead = self.was_said = False
 
@@ -95,7 +101,7 @@ class World:
         """The weight is acknowledged: connections that were left aren't heard any more."""
         self.weight += 1
         self.change(Heard.LEFT, Heard.CLOSED)
-        self.was_said = self.is_one_left = self.is_settled = False
+        self.was_said = self.is_one_left = self.is_settled = self.was_cut = False
 
     def hears_left(self) -> bool:
         while heard := [way for way in self.answers if way[1] is Heard.LEFT]:
@@ -151,6 +157,8 @@ def step(world: World, what: str) -> World | None:
         world.was_said = False
         if not world.numbers.is_next_tried():
             world.leave()
+        else:
+            ask_book(world, False)
     elif what == "cut" and may_be_cut(world):
         world.cut()
     elif (
@@ -158,7 +166,7 @@ def step(world: World, what: str) -> World | None:
         and world.is_one_left
         and not any(how is Heard.LEFT for _, how in world.lines)
     ):
-        world.is_one_left = False
+        world.is_one_left, world.was_cut = False, True
     elif what in ("end", "kill") and world.halls < HALLS:
         end_hall(world, what)
     else:
@@ -172,7 +180,7 @@ def may_be_cut(world: World) -> bool:
 
 def is_silent(world: World) -> bool:
     """Whether nothing is heard for so long: there is nothing, or the hall is slow."""
-    return not world.answers and not (world.is_cut and world.lines)
+    return not world.answers and (world.is_slow or not world.lines)
 
 
 def say(world: World) -> None:
@@ -187,13 +195,21 @@ def connect(world: World, was_refused: bool) -> None:
     a weight that was said before the book is asked, which knows it where it is settled."""
     world.is_connected, world.is_dead = True, False
     if not world.hears_left():
-        world.numbers.connect(was_refused, world.is_one_left)
+        world.numbers.connect(was_refused, world.is_one_left, world.was_cut)
+    world.was_cut = False
+    ask_book(world, True)
+    world.is_new = False
+
+
+def ask_book(world: World, is_new_link: bool) -> None:
+    """Where connections are cut the book is asked for a weight that was said before."""
     if world.is_settled:
         if not world.is_cut:
             fail(f"the book has to be asked where no connection is cut: {world.steps}")
         world.numbers.skip_line()
         world.acknowledge()
-    world.is_new = False
+    elif is_new_link and world.is_cut and world.rows[-1:] == [world.weight]:
+        world.numbers.put_said_first()
 
 
 def end_hall(world: World, what: str) -> None:
@@ -227,7 +243,7 @@ def check_world(world: World) -> None:
 
 def check_numbers() -> None:
     """Goes through all worlds, and sees that from each the weight can still be acknowledged."""
-    worlds = [World(Numbers(0), is_cut) for is_cut in (False, True)]
+    worlds = [World(Numbers(0), *kind) for kind in ((False, True), (True, False), (True, True))]
     seen = {world.key() for world in worlds}
     depth = 0
     while worlds and depth < DEPTH:

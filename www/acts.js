@@ -3,9 +3,9 @@
 import * as grams from "./grams.js";
 import { addNames, names } from "./names.js";
 import { say, word } from "./words.js";
-import { give, outcome, why } from "./requests.js";
+import { give, onChange, outcome, why } from "./requests.js";
 import { pending, told } from "./kept.js";
-import { lacks, myDesk } from "./mydesk.js";
+import { lacks, myDesk, onDesk } from "./mydesk.js";
 import { make, put } from "./page.js";
 import { verdictTag } from "./parts.js";
 import { fixed, grams as spell } from "./numbers.js";
@@ -149,13 +149,27 @@ export function actWords({ act, members }) {
 }
 
 // What stands of the act that waits for an answer: how loud, and the words.
-export function pendingWords() {
+function pendingWords() {
   const desk = myDesk();
   const [head] = desk ? pending(desk) : [];
   if (!head) return ["", ""];
   const tries = head.tries ? ` (${head.tries})` : "";
   const state = why.get(desk) === "500" ? "diskFailed" : why.has(desk) ? "asksAgain" : "asked";
   return [state, say(state, { request: head.request, tries })];
+}
+
+// A line that says it, as long as one waits.
+export function pendingLine() {
+  const line = make("p", { role: "status" });
+  const show = () => {
+    const [kind, text] = pendingWords();
+    line.className = `pending ${kind}`;
+    put(line, text);
+  };
+  onChange(show);
+  onDesk(show);
+  show();
+  return line;
 }
 
 export const toldActs = (most) => (myDesk() ? told(myDesk()).slice(0, most) : []);

@@ -5,20 +5,6 @@ import { readMass } from "./grams.js";
 
 export const linesOf = (text) => text.split("\n").filter((line) => line);
 
-export function readSummary(text, rows) {
-  const told = { rows, piles: [], states: [] };
-  for (const line of linesOf(text)) {
-    const [name, ...rest] = line.split(" ");
-    if (name === "batches") {
-      const states = rest.filter((_, at) => at % 2 === 0);
-      told.states = states.map((state, at) => [state, Number(rest[2 * at + 1])]);
-    } else if (name !== "rows") {
-      told.piles.push({ word: name, count: Number(rest[0]), gross: readMass(rest[2]) });
-    }
-  }
-  return told;
-}
-
 export function readPack(number, text) {
   const words = text.trim().split(" ");
   return { number, batch: words[3], lane: Number(words[5]), gross: readMass(words[7]),
@@ -84,20 +70,14 @@ export function readSheet(batch, text, rows) {
   return told;
 }
 
-// A text of `hall list`: the day, products, batches, the requests of desks, and the rows left.
+// A text of `hall list`: the day, products, batches, and the rows left.
 export function readList(text) {
-  const told = { day: null, products: [], batches: [], lanes: [], text, left: null };
+  const told = { day: null, products: [], batches: [], text, left: null };
   for (const words of linesOf(text).map((line) => line.split(" "))) {
     const [kind, name] = words;
     if (kind === "day" && name !== "none") told.day = name;
-    if (kind === "product") {
-      told.products.push({ name, spelled: words.slice(3, 5).join(" "), tare: words.at(-1) });
-    }
-    if (kind === "batch") {
-      told.batches.push({ batch: name, product: words[3], state: words[5],
-        population: Number(words[7]) });
-    }
-    if (kind === "lane") told.lanes.push(Number(name));
+    if (kind === "product") told.products.push(name);
+    if (kind === "batch") told.batches.push({ batch: name, product: words[3], state: words[5] });
     if (kind === "rows") Object.assign(told, { rows: Number(name), left: Number(words[3]) });
   }
   return told;

@@ -1,8 +1,8 @@
-// The desk: what waits for a person, batch by batch and one step at a time; measuring as a mode of
-// its own; every other act behind one menu with a search; what the book answered.
+// The desk: what waits for a person, batch by batch and one step at a time; every other act behind
+// one menu with a search; what the book answered. Measuring is a page of its own, as the pick list.
 
 import * as office from "./office.js";
-import { ACT_NAMES, actWords, nameLists, pendingWords, toldActs } from "./acts.js";
+import { ACT_NAMES, actWords, nameLists, pendingLine, toldActs } from "./acts.js";
 import { addListed, names } from "./names.js";
 import { CODE, addWords, say, word } from "./words.js";
 import { count, day, quantity } from "./numbers.js";
@@ -127,23 +127,6 @@ async function told() {
   putWork(true);
 }
 
-// What is loaded when a mode is opened.
-const MODES = {
-  measure: () => import("./measuring.js"),
-  pick: () => import("./labels.js"),
-};
-
-async function openMode(sheet, name) {
-  state.mode = name;
-  const leave = () => {
-    state.mode = "";
-    office.following(askAll).then(() => putWork(true));
-  };
-  const mode = make("div");
-  place.work.replaceChildren(titleOf(sheet), stepList("measure"), mode);
-  await office.following(async () => (await MODES[name]()).open(mode, sheet, leave));
-}
-
 function putWork(isAnew = false) {
   if (state.mode) return;
   const sheet = state.sheets.get(state.batch);
@@ -158,10 +141,8 @@ function putWork(isAnew = false) {
     else outcomeWords({ found: { refused: BATCH_UNKNOWN } }).then((words) => put(text, words));
     return;
   }
-  const acts = { told, openAct,
-    measure: () => openMode(sheet, "measure"), pick: () => openMode(sheet, "pick") };
   place.work.replaceChildren(titleOf(sheet), stepList(nextFor(sheet)),
-    stepPanel(sheet, state.onLane.has(sheet.batch), acts));
+    stepPanel(sheet, state.onLane.has(sheet.batch), { told, openAct }));
 }
 
 const loadForms = () => import("./forms.js").catch(() => null);
@@ -226,9 +207,6 @@ function buildMenu() {
 let tellings = 0;
 
 async function putTold() {
-  const [kind, text] = pendingWords();
-  place.pending.className = `pending ${kind}`;
-  put(place.pending, text);
   tellings += 1;
   const telling = tellings;
   const entries = toldActs(TOLD);
@@ -262,7 +240,7 @@ async function askList() {
 export async function build(section) {
   await loadStyles("parts.css", "forms.css", "desk.css");
   const list = (className) => make("ol", { className });
-  place = { pending: make("p", { className: "pending", role: "status" }), told: list("told-list"),
+  place = { pending: pendingLine(), told: list("told-list"),
     tasks: list("tasks"), runs: list("plain-list"), closed: list("plain-list"),
     work: make("div", { className: "work" }), names: make("div"), listed: make("pre"),
     said: make("p", { className: "said done", role: "status" }),
@@ -294,7 +272,7 @@ export async function build(section) {
 }
 
 export async function show(batch) {
-  if (batch !== state.batch || !state.mode.startsWith("act")) state.mode = "";
+  if (batch !== state.batch) state.mode = "";
   state.batch = batch;
   put(place.said, "");
   putWork(true);

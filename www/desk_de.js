@@ -50,7 +50,6 @@ export default {
   drawDo: "Probe ziehen",
   measureTitle: "Probe nachwiegen: {done} von {all} getan",
   measureText: "Sie können jederzeit aufhören; was erfasst ist, bleibt.",
-  measureDo: "Nachwiegen",
   secondTitle: "{d1} unter T1 lassen es offen",
   secondText:
     "Mit höchstens {c1} wäre sie jetzt angenommen, mit {r1} zurückgewiesen. {second} weitere "
@@ -74,7 +73,6 @@ export default {
   defectsNow: "Fehlerhaft in der Probe",
   c1r1: "{d1}, c1 = {c1}, r1 = {r1}",
   c2r2: "{both}, c2 = {c2}, r2 = {r2}",
-  pickList: "Suchliste",
   toSheet: "Blatt",
   toChart: "Karte",
   // the acts
@@ -120,4 +118,13 @@ export default {
   "bad.amount": "Ein Wert von {least} bis {most} {unit}, wie 262,12.",
   "bad.text": "Höchstens {most} Buchstaben.",
   "bad.number": "Eine ganze Zahl bis {most}.",
+  send: "Senden",
+  again: "Noch einmal Enter, um es zu tun.",
+  unseen: "Keine Antwort: vor dem Senden noch einmal ansehen.",
+  farDay: "{day} liegt {days} Tage von heute. Ein Tag kann nicht zurückgenommen werden.",
+  aboutPack:
+    "Packung {number} aus {batch}, Linie {lane}: brutto {gross} g, netto {net} g, {pile}.",
+  aboutBatch: "{batch}: {state}, {population} Packungen, die zählen.",
+  tareReach:
+    "Alle Packungen der Ware ab diesem Tag werden neu beurteilt, auch die hinausgegangenen.",
 };

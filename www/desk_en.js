@@ -49,7 +49,6 @@ export default {
   drawDo: "Draw the sample",
   measureTitle: "Measure the sample: {done} of {all} done",
   measureText: "You can stop at any time; what is recorded stays.",
-  measureDo: "Measure",
   secondTitle: "{d1} below T1 leave it open",
   secondText: "With at most {c1} it would be accepted now, with {r1} rejected. {second} more packs "
     + "decide: at most {c2} of both together.",
@@ -71,7 +70,6 @@ export default {
   defectsNow: "Defective in the sample",
   c1r1: "{d1}, c1 = {c1}, r1 = {r1}",
   c2r2: "{both}, c2 = {c2}, r2 = {r2}",
-  pickList: "Pick list",
   toSheet: "Sheet",
   toChart: "Chart",
   // the acts
@@ -116,4 +114,12 @@ export default {
   "bad.amount": "A value from {least} to {most} {unit}, as 262.12.",
   "bad.text": "At most {most} letters.",
   "bad.number": "A whole number up to {most}.",
+  send: "Send",
+  again: "Enter again to do it.",
+  unseen: "No answer: look at it again before it is sent.",
+  farDay: "{day} is {days} days from today. A day can't be taken back.",
+  aboutPack: "Pack {number} of {batch}, lane {lane}: {gross} g gross, {net} g net, {pile}.",
+  aboutBatch: "{batch}: {state}, {population} packs that count.",
+  tareReach:
+    "All packs of the product from that day on are judged anew, also those that have left.",
 };

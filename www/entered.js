@@ -12,6 +12,17 @@ const whole = (values) => (isWhole(values) ? values : null);
 // A list of amounts, one a line.
 export const readList = (text, unit) => whole(lines(text).map((line) => readAmount(line, unit)));
 
+// What a list that is being typed comes to: how many values, their mean and s; or in which line, from
+// 1, is no amount. The last line may not be done yet.
+export function soFar(text) {
+  const typed = lines(text).map((line) => readAmount(line, "g"));
+  const bad = typed.slice(0, -1).indexOf(null) + 1;
+  const values = typed.filter((value) => value !== null);
+  const mean = values.reduce((sum, value) => sum + value, 0) / values.length;
+  const squares = values.reduce((sum, value) => sum + (value - mean) ** 2, 0);
+  return { bad, count: values.length, mean, spread: Math.sqrt(squares / (values.length - 1)) };
+}
+
 // Pairs, one a line: a test weight and what was shown of it.
 export function readPairs(text) {
   const amounts = (line) => line.split(/[\s;]+/).map((part) => readAmount(part, "g"));

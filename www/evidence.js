@@ -3,18 +3,21 @@
 // the one before. Without an archive the page says so.
 
 import { addWords, say } from "./words.js";
-import { FIELDS, KINDS, readEntry } from "./entered.js";
+import { FIELDS, KINDS, readEntry, soFar } from "./entered.js";
 import { deskChoice } from "./mydesk.js";
 import { dueWords } from "./evidenceshown.js";
 import { grams } from "./evidencewords.js";
 import { isReady, makeSaid, sendAct, tell } from "./acts.js";
-import { loadStyles, make, notice, tag } from "./page.js";
+import { loadStyles, make, notice, put, tag } from "./page.js";
 import { spellDay } from "./evidencekinds.js";
 import { table } from "./parts.js";
 import { Missing, reach } from "./office.js";
 import { soonPage } from "./soon.js";
 
-const SIGNS = { good: ["ok", "pass"], more: ["warn", "early"], bad: ["alarm", "reject"] };
+// How a record may stand, what needs a person first.
+const SIGNS = { bad: ["alarm", "reject"], more: ["warn", "early"], old: ["warn", "clock"],
+  good: ["ok", "pass"] };
+const RANKS = Object.keys(SIGNS);
 const CREATED = 201;
 
 addWords({
@@ -38,34 +41,59 @@ async function ask(path, options) {
 const post = (kind, subject, body) => ask(`evidence/${kind}/${encodeURIComponent(subject)}`,
   { method: "POST", headers: { "Content-Type": "application/json" }, body: JSON.stringify(body) });
 
-const resultTag = ({ result }) => tag(...SIGNS[result], say(`result.${result}`));
-
 // Calls for help are kept as evidence is; they stand among what is to be seen to.
 const isProof = ({ kind }) => kind !== "call";
 
-function newestTable(records) {
+// What a record found, in figures.
+function foundWords({ kind, body }) {
+  const figures = { mean: body.mean, spread: body.deviation, limit: body.limit, used: body.used,
+    density: body.density };
+  const spelled = Object.entries(figures).map(([name, value]) => [name, grams(value)]);
+  return say(`told.${kind}`, Object.fromEntries(spelled));
+}
+
+// The newest of each, what needs a person first: what isn't in order, then what is `due` anew.
+function newestTable(records, due) {
   if (records.length === 0) return make("p", {}, say("noEvidence"));
+  const isOld = ({ kind, subject }) =>
+    due.some((one) => one.why === "old" && one.kind === kind && one.subject === subject);
+  const standing = (one) => (one.body.result === "good" && isOld(one) ? "old" : one.body.result);
+  const rank = (one) => RANKS.indexOf(standing(one));
   const heads = ["kind", "subject", "when", "who", "result"].map((name) => say(`head.${name}`));
-  return table("", heads, records.map((one) => [say(`kind.${one.kind}`), one.subject,
-    spellDay(one.moment), one.person, resultTag(one.body)]));
+  const sorted = [...records].sort((one, other) => rank(one) - rank(other));
+  return table("", heads, sorted.map((one) => [
+    [say(`kind.${one.kind}`), make("small", {}, foundWords(one))], one.subject,
+    spellDay(one.moment), one.person, tag(...SIGNS[standing(one)], say(`result.${standing(one)}`)),
+  ]));
+}
+
+// What is typed of a list so far, so that a wrong value is seen at once.
+function countWords(text) {
+  const { bad, count: many, mean, spread } = soFar(text);
+  if (bad) return say("soFarBad", { line: bad });
+  const figures = { many, mean: grams(mean), spread: grams(spread) };
+  return many > 1 ? say("soFar", figures) : "";
 }
 
 function fieldOf(kind, [name, , isLong]) {
   const id = `e-${kind}-${name}`;
   const input = make(isLong ? "textarea" : "input",
     { id, name, autocomplete: "off", rows: isLong ? 10 : null, className: "e-field" });
-  return make("p", { className: "field" }, make("label", { for: id }, say(`enter.${name}`)), input);
+  const field = make("p", { className: "field" }, make("label", { for: id }, say(`enter.${name}`)),
+    input);
+  if (name === "empties") {
+    const said = make("span", { className: "hint", role: "status" });
+    input.addEventListener("input", () => put(said, countWords(input.value)));
+    field.append(said);
+  }
+  return field;
 }
 
 // A record that came of what was typed; of a good tare the act is offered.
 function outcome(said, record) {
   const { kind, subject, body, digest } = record;
-  const figures = { mean: body.mean, spread: body.deviation, limit: body.limit, used: body.used,
-    density: body.density };
-  const spelled = Object.entries(figures).map(([name, value]) => [name, grams(value)]);
-  const words = say(`told.${kind}`, Object.fromEntries(spelled));
   const result = say(`result.${body.result}`);
-  tell(said, body.result === "good" ? "done" : "refused", `${result}. ${words}`);
+  tell(said, body.result === "good" ? "done" : "refused", `${result}. ${foundWords(record)}`);
   if (kind !== "tare" || body.result !== "good") return;
   const day = new Date().toISOString().slice(0, 10);
   const button = make("button", { type: "button" }, say("enterTare", { tare: grams(body.tare) }));
@@ -124,8 +152,9 @@ export async function build(section) {
   if (!first) return void soonPage("evidence").build(section);
   const [newest, due] = [make("div", { className: "scroll" }), make("div", { role: "status" })];
   const show = async () => {
-    newest.replaceChildren(newestTable((await ask("newest")).said.filter(isProof)));
+    const records = (await ask("newest")).said.filter(isProof);
     const { evidence, books } = (await ask("alarms")).said;
+    newest.replaceChildren(newestTable(records, evidence));
     const said = [...evidence.map(dueWords), ...books.map(({ book, what }) => `${book}: ${what}`)];
     due.replaceChildren(...(said.length ? [notice("alarm", "warn", say("overdue"),
       make("ul", {}, said.map((text) => make("li", {}, text))))] : []));

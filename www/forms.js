@@ -3,27 +3,11 @@
 
 import * as grams from "./grams.js";
 import * as office from "./office.js";
-import { addWords, say, word } from "./words.js";
+import { say, word } from "./words.js";
 import { amount, drawn, empty, farOff, gross, isFarOff, isReady, makeField, makeSaid, readAll,
   sendAct, tell, weight } from "./acts.js";
 import { day as spellDay, grams as spell } from "./numbers.js";
 import { make } from "./page.js";
-
-addWords({
-  unseen: ["No answer: look at it again before it is sent.",
-    "Keine Antwort: vor dem Senden noch einmal ansehen."],
-  again: ["Enter again to do it.", "Noch einmal Enter, um es zu tun."],
-  send: ["Send", "Senden"],
-  farDay: ["{day} is {days} days from today. A day can't be taken back.",
-    "{day} liegt {days} Tage von heute. Ein Tag kann nicht zurückgenommen werden."],
-  aboutPack: ["Pack {number} of {batch}, lane {lane}: {gross} g gross, {net} g net, {pile}.",
-    "Packung {number} aus {batch}, Linie {lane}: brutto {gross} g, netto {net} g, {pile}."],
-  aboutBatch: ["{batch}: {state}, {population} packs that count.",
-    "{batch}: {state}, {population} Packungen, die zählen."],
-  tareReach: [
-    "All packs of the product from that day on are judged anew, also those that have left.",
-    "Alle Packungen der Ware ab diesem Tag werden neu beurteilt, auch die hinausgegangenen."],
-});
 
 const FAR_DAYS = 31;
 const MOST_REASON = 200;

@@ -23,12 +23,6 @@ export function readMass(text) {
   return parts[1] ? -size : size;
 }
 
-export function spellGrams(milligrams) {
-  const size = Math.abs(Math.round(milligrams));
-  const behind = String(size % 1000).padStart(3, "0");
-  return `${milligrams < 0 && size > 0 ? "-" : ""}${Math.floor(size / 1000)}.${behind}`;
-}
-
 export function isName(text) {
   return /^[A-Za-z0-9][A-Za-z0-9._-]{0,31}$/.test(text);
 }

@@ -16,7 +16,11 @@ const PAGES = new Map(Object.entries({
   reports: () => import("./reports.js"),
   evidence: () => import("./evidence.js"),
   search: () => import("./search.js"),
+  measure: () => import("./measuring.js"),
+  picks: () => import("./picks.js"),
 }));
+// Pages that are a part of another one, to which the head leads.
+const PART_OF = new Map([["measure", "desk"], ["picks", "desk"]]);
 // The name that a page had before.
 const FORMER = new Map([["chart", "batch"]]);
 const built = new Map();
@@ -46,7 +50,7 @@ async function load(name) {
 async function show() {
   const { page: name, about } = asked();
   for (const place of document.querySelectorAll("nav a")) {
-    if (place.hash === `#${name}`) place.setAttribute("aria-current", "page");
+    if (place.hash === `#${PART_OF.get(name) ?? name}`) place.setAttribute("aria-current", "page");
     else place.removeAttribute("aria-current");
   }
   document.title = `hall: ${say(name)}`;

@@ -26,6 +26,7 @@ export default {
   mSpread: "s",
   mLast: "Hier erfasst",
   mAll: "{done} von {all} nachgewogen",
+  mNothing: "Keine Probe dieser Charge wartet auf das Nachwiegen.",
   mDone: "Alle {all} sind nachgewogen.",
   "check accepts": "die Einzelinhalte sind angenommen",
   "check rejects": "die Einzelinhalte sind zurückgewiesen",

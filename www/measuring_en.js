@@ -26,6 +26,7 @@ export default {
   mSpread: "s",
   mLast: "Recorded here",
   mAll: "{done} of {all} measured",
+  mNothing: "No sample of this batch waits to be measured.",
   mDone: "All {all} are measured.",
   "check accepts": "the contents check accepts",
   "check rejects": "the contents check rejects",

@@ -24,6 +24,6 @@ export function addNames(kind, added) {
 export async function addListed() {
   const listed = await list();
   addNames("batches", listed.batches.map(({ batch }) => batch));
-  addNames("products", listed.products.map(({ name }) => name));
+  addNames("products", listed.products);
   return listed;
 }

@@ -1,6 +1,6 @@
 // Asks the office its questions, and the front the files beside them.
 
-import { readActs, readLanes, readList, readPack, readPacks, readSample, readSheet, readSummary }
+import { readActs, readLanes, readList, readPack, readPacks, readSample, readSheet }
   from "./answers.js";
 import { MOST_LANES } from "./rules.js";
 
@@ -81,10 +81,8 @@ export async function following(work) {
   }
 }
 
-export async function summary() {
-  const answer = await ask("summary");
-  return readSummary(answer.text, answer.row);
-}
+// How many rows the book has.
+export const summary = async () => ({ rows: (await ask("summary")).row });
 
 export async function lane(number) {
   const { refused, row, text } = await ask(`lanes/${number}`);

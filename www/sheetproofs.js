@@ -1,8 +1,9 @@
-// What the archive adds to a sheet: the newest evidence on the goods and the scales, and who did
-// what with the batch, and when.
+// What the archive adds to a sheet: the newest evidence on the goods and the scales, who did what
+// with the batch, and when, and the fingerprint of the book at its closing.
 
 import { CODE, addWords, say } from "./words.js";
-import { actsOf } from "./archived.js";
+import { actsOf, askArchive } from "./archived.js";
+import { count } from "./numbers.js";
 import { make } from "./page.js";
 import { spellDay } from "./evidencekinds.js";
 
@@ -39,13 +40,25 @@ function actLines(acts) {
   return [...own.map(actLine), ...measuredLines(of("measure")), ...of("close").map(actLine)];
 }
 
+// The fingerprint of the rows up to the closing, as the witness has it; nothing as long as it hasn't.
+async function fingerprintOf(acts) {
+  const closing = acts.find(({ kind }) => kind === "close");
+  const line = closing
+    && await askArchive(`witness/${encodeURIComponent(closing.book)}/${closing.row}`);
+  if (!line) return [];
+  return [make("div", { className: "sh-print" },
+    make("h3", {}, say("fingerprintOf", { ...line, book: closing.book, rows: count(line.rows) })),
+    make("p", { className: "mono" }, line.audit.match(/.{8}/g).join(" ")),
+    make("p", { className: "sh-note" }, say("fingerprintHow", { ...line, book: closing.book })))];
+}
+
 const part = (name, lines, none) => make("div", {}, make("h3", {}, say(name)), lines.length
   ? make("dl", { className: "lines" }, lines) : make("p", { className: "sh-note" }, say(none)));
 
-// Both for a batch whose packs begin at a row, beside the newest evidence of each.
+// All of it for a batch whose packs begin at a row, beside the newest evidence of each.
 export async function proofsOf(sheet, newest, firstPack) {
   const acts = await actsOf(sheet, firstPack);
   return make("section", { className: "sh-evidence" },
     part("proofs", newest.filter(isOf(sheet)).map(proofLine), "noProofs"),
-    part("whoWhen", actLines(acts), "noActs"));
+    part("whoWhen", actLines(acts), "noActs"), await fingerprintOf(acts));
 }

@@ -12,5 +12,8 @@ export default {
   "did.second": "zweite Probe gezogen",
   "did.void": "Packung gestrichen",
   "did.close": "abgeschlossen",
+  fingerprintOf: "Fingerabdruck der Zeilen 1 bis {rows} des Buchs {book}",
+  fingerprintHow:
+    "Genommen {utc}. hall audit --book {book}.book --rows {rows} muss dasselbe sagen.",
   didMeasure: "{count} Packungen nachgewogen",
 };

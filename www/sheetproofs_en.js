@@ -12,5 +12,7 @@ export default {
   "did.second": "second sample drawn",
   "did.void": "pack voided",
   "did.close": "closed",
+  fingerprintOf: "Fingerprint of rows 1 to {rows} of book {book}",
+  fingerprintHow: "Taken {utc}. hall audit --book {book}.book --rows {rows} has to say the same.",
   didMeasure: "{count} packs measured",
 };

@@ -101,17 +101,19 @@ const BODIES = {
   held: (sheet, { openAct }) => [standing(sheet), make("p", { className: "acts" },
     button(say("act.void"), "", () => openAct("void")),
     button(say("act.tare"), "second", () => openAct("tare", { product: sheet.product })))],
-  measure: (sheet, { measure, pick }) => {
+  measure: (sheet) => {
     const part = partOf(sheet);
+    const link = (page, kind) => make("a", { className: `button ${kind}`,
+      href: `#${page}/${sheet.batch}` }, say(page));
     return [meter(part.measured, part.count), make("p", { className: "acts" },
-      button(say("measureDo"), "go-measure", measure), button(say("pickList"), "second", pick))];
+      link("measure", "go-measure"), link("picks", "second"))];
   },
 };
 
 export const partOf = (sheet) => sheet.second ?? sheet.first;
 
-// The panel of a step. `acts` has what its buttons do: `told` gets the outcome of an act, `measure`
-// and `pick` open these modes, `openAct` the form of another act.
+// The panel of a step. `acts` has what its buttons do: `told` gets the outcome of an act, `openAct`
+// opens the form of another one.
 export function stepPanel(sheet, isOnLane, acts) {
   const next = nextOf(sheet, isOnLane);
   const plan = planOf(sheet.population, sheet.mode ?? "keep");

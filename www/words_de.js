@@ -9,6 +9,8 @@ export default {
   reports: "Berichte",
   evidence: "Nachweise",
   search: "Suche",
+  measure: "Nachwiegen",
+  picks: "Suchliste",
   skip: "Zum Inhalt",
   pages: "Seiten",
   otherLanguage: "English",

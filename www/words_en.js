@@ -9,6 +9,8 @@ export default {
   reports: "Reports",
   evidence: "Evidence",
   search: "Search",
+  measure: "Measure",
+  picks: "Pick list",
   skip: "To the content",
   pages: "Pages",
   otherLanguage: "Deutsch",

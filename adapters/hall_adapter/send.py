@@ -17,7 +17,7 @@ first line there is the weight that isn't acknowledged with the number 1. A new 
 one that goes on says again how many it has taken. So this goes on over any restart of the hall,
 behind a tunnel too. Where one line was acknowledged so far, 5 seconds of silence tell the two
 apart, or a port that refused a connection meanwhile; a tunnel whose own port may do that is used
-with --book.
+with --book. A connection that is cut before it answered tells nothing: the next one begins anew.
 
 Once a batch was said, each new connection begins with that line under the number 1, whether weights
 come or not: a new hall takes it, so that no weight is booked under another batch, and one that goes

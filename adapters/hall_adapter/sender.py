@@ -51,8 +51,10 @@ class Sender:
         self.link: Link | None = None
         # the batch that was said last
         self.batch: bytes | None = None
-        # the connections that were left while a line wasn't acknowledged, the oldest first
+        # the connections that were left while a line wasn't acknowledged, the oldest first; and
+        # whether one ended by itself since the last one was made
         self.left: list[Link] = []
+        self.was_cut = False
 
     def leave(self) -> None:
         """Leaves the connection; it is heard until its end, or until the line is acknowledged."""
@@ -89,7 +91,9 @@ class Sender:
             # what the hall before this one said came before this one took the connection
             if self.hears_left():
                 return None
-            self.numbers.connect(was_refused and self.book is None, bool(self.left))
+            is_new = was_refused and self.book is None
+            self.numbers.connect(is_new, bool(self.left), self.was_cut)
+            self.was_cut = False
         return self.link
 
     def hears_left(self) -> bool:
@@ -102,6 +106,7 @@ class Sender:
             except OSError:
                 link.close()
                 self.left.remove(link)
+                self.was_cut = True
         return False
 
     def answer(self, link: Link, seconds: float) -> Answer:
@@ -139,7 +144,7 @@ class Sender:
     def ask(self, link: Link, what: bytes) -> Answer:
         """Says a line under the present number, a few times where silence has a meaning."""
         times = TIMES if self.numbers.is_silence_told() else 1
-        seconds = self.seconds if times == 1 else min(self.seconds, SILENCE) / TIMES
+        seconds = self.seconds if times == 1 else SILENCE / TIMES
         for _ in range(times):
             link.say(b"%d %s\n" % (self.numbers.number(), what))
             answer = self.answer(link, seconds)
@@ -158,7 +163,7 @@ class Sender:
             if answer is Answer.SILENCE:
                 if not self.numbers.is_next_tried():
                     return False
-                if self.is_in_book(what, began):
+                if self.is_in_book(what, began, False):
                     return True
         return True
 
@@ -171,7 +176,7 @@ class Sender:
         while True:
             try:
                 link = self.connect(wait)
-                if link is None or connections > 0 and self.is_in_book(what, began):
+                if link is None or connections > 0 and self.is_in_book(what, began, True):
                     break
                 connections += 1
                 if self.is_said(link, what, began):
@@ -183,19 +188,22 @@ class Sender:
                 time.sleep(RETRY)
             self.leave()
         self.forget_left()
+        self.was_cut = False
         number = self.numbers.acknowledged
         is_new = self.numbers.in_step and (before == 0 or number != before + 1)
         is_weight = what != b"end" and not is_batch(what)
-        if connections > 1 and is_new and self.book is None and is_weight:
+        is_risked = connections > 1 and (is_new or self.numbers.is_doubtful)
+        if is_risked and self.book is None and is_weight:
             report(
                 f"{what.decode()} was said before to a hall that ended without acknowledging it:"
                 " see that the book hasn't it twice"
             )
         return number
 
-    def is_in_book(self, what: bytes, began: float) -> bool:
+    def is_in_book(self, what: bytes, began: float, is_new_link: bool) -> bool:
         """Whether the book has a weight that was said before and isn't acknowledged. Where no hall
-        is there to say so, one is waited for: an OSError."""
+        is there to say so, one is waited for: an OSError. Where it isn't settled, its hall goes on
+        or is about to end, which decides about the order of numbers on a new connection."""
         if self.book is None or what == b"end" or is_batch(what):
             return False
         is_late = ASK_WAIT < time.monotonic() - began
@@ -210,8 +218,8 @@ class Sender:
                 raise OSError from fault
             report(f"{what.decode()} is said again, and the book can't be asked for it: {fault}")
             return False
-        if newest is Newest.UNSETTLED:
-            self.numbers.put_one_last()
+        if newest is Newest.UNSETTLED and is_new_link:
+            self.numbers.put_said_first()
         elif newest is Newest.SETTLED:
             self.numbers.skip_line()
         return newest is Newest.SETTLED

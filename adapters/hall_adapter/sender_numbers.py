@@ -21,31 +21,50 @@ class Numbers:
 
     def __init__(self, acknowledged: int):
         self.acknowledged = acknowledged
-        # the numbers under which the line is still to be tried on a new connection, and those under
-        # which it was said
+        # the numbers under which the line is to be tried on a new connection, those that are left of
+        # them on this one, and those under which it was said
+        self.whole: list[int] = []
         self.tries: list[int] = []
         self.said: set[int] = set()
         # whether the hall of this connection is known to have taken what was acknowledged
         self.in_step = False
+        # whether the last line was said under a smaller number too, under which a hall may have it
+        self.is_doubtful = False
 
-    def connect(self, is_new_hall: bool, is_one_left: bool = False) -> None:
+    def connect(self, is_new_hall: bool, is_one_left: bool = False, was_cut: bool = False) -> None:
         """The connection is a new one; its hall is another one than before, or that isn't known.
-        Where one that was left hasn't ended, its hall may go on: then 1 comes last."""
+        Where one that was left hasn't ended, its hall may go on: then 1 comes last. Where one was
+        cut, what was said there may never have come, and its silence said nothing: all numbers are
+        tried again."""
         self.in_step = False
         if is_new_hall and self.acknowledged == 1:
-            self.tries = [1]
+            self.try_all([1])
+        elif was_cut and self.whole and not is_one_left:
+            self.try_all(self.whole)
         elif not self.tries:
-            self.tries = [1]
+            self.try_all([1])
             if self.acknowledged == 1:
                 self.put_one_last()
         if is_one_left:
             self.put_one_last()
 
+    def try_all(self, numbers: list[int]) -> None:
+        """The line is to be tried under these numbers, here and on each connection behind a cut."""
+        self.whole, self.tries = list(numbers), list(numbers)
+
     def put_one_last(self) -> None:
         """Where a new hall would take the line under the number now, the next number comes first. A
         hall that took it under the number before that one would take it again, though."""
         if self.may_be_new() and self.acknowledged > 0 and self.acknowledged not in self.said:
-            self.tries = [self.acknowledged + 1, 1]
+            self.try_all([self.acknowledged + 1, 1])
+
+    def put_said_first(self) -> None:
+        """The book has the line, of a hall that goes on: it took it under a number under which it
+        was said, and would take it again under a later one."""
+        if self.said and not self.in_step and self.tries and min(self.said) < self.tries[0]:
+            self.tries = [min(self.said)]
+        else:
+            self.put_one_last()
 
     def number(self) -> int:
         """The number to be said now."""
@@ -67,7 +86,7 @@ class Numbers:
             raise Ahead(number)
         if number == self.acknowledged:
             self.in_step = True
-            self.tries = []
+            self.try_all([])
         return False
 
     def find(self, number: int) -> bool:
@@ -79,7 +98,8 @@ class Numbers:
         is_said = number in self.said
         if is_said:
             self.said = set()
-        self.acknowledged, self.tries, self.in_step = number, [], True
+        self.acknowledged, self.in_step = number, True
+        self.try_all([])
         return is_said
 
     def hear_left(self, number: int) -> bool:
@@ -96,8 +116,9 @@ class Numbers:
 
     def begin_line(self, acknowledged: int) -> None:
         """Goes on to the next line."""
+        self.is_doubtful = bool(self.said) and min(self.said) < acknowledged
         self.acknowledged = acknowledged
-        self.tries = []
+        self.try_all([])
         self.said = set()
 
     def is_silence_told(self) -> bool:
@@ -118,4 +139,4 @@ class Numbers:
         may_have = sorted(self.said | {0}, reverse=True)
         self.begin_line(may_have[0])
         self.in_step = False
-        self.tries = [number + 1 for number in may_have]
+        self.try_all([number + 1 for number in may_have])

@@ -83,7 +83,7 @@ class Acts(Spans):
     def hint(self, values: dict[str, Any]) -> str:
         """The index of acts that SQLite takes: by itself it would read all of a book."""
         words = [word for word in INDEXES if word in values]
-        return f"INDEXED BY act_{words[0]}" if words and self.is_sqlite else ""
+        return self.indexed(f"act_{words[0]}") if words else ""
 
 
 def widened(time: Time) -> Time:

@@ -18,8 +18,10 @@ FOUND = """
 # of one book at a time, so that the newest are found without all that a person ever did
 ACTED = """k.id = :id AND o.batch IN (SELECT a.batch FROM person p
     JOIN act a ON a.book = p.book AND a.row = p.row WHERE p.book = :id AND p.name = :person)"""
+# the books in which a person acted: a look at an index for each, in one statement
 NEWEST = """
-    SELECT s.book FROM summed s JOIN book k ON k.id = s.book WHERE {terms}
+    SELECT s.book FROM summed s JOIN book k ON k.id = s.book WHERE {terms} AND (
+        SELECT p.row FROM person p WHERE p.book = s.book AND p.name = :person LIMIT 1) > 0
     ORDER BY s.last_day DESC, k.hall, k.name DESC"""
 
 
@@ -42,7 +44,9 @@ class Finding(Books):
 
     def acted(self, statement: str, of_halls: str, values: dict[str, Any]) -> list[Any]:
         """Book by book, the newest first, until there are enough."""
-        halls = {key: value for key, value in values.items() if key.startswith("hall")}
+        halls = {
+            key: value for key, value in values.items() if key.startswith("hall") or key == "person"
+        }
         found: list[Any] = []
         for (book,) in self.ask(NEWEST.format(terms=of_halls), **halls):
             if len(found) < MOST:

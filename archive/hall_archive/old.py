@@ -43,8 +43,8 @@ class Old(Books):
     def of_batch(self, book: int, batch: int, kinds: tuple[str, ...]) -> list[Any]:
         words = ", ".join(f"'{kind}'" for kind in kinds)
         return self.ask(
-            f"""SELECT row, line FROM act WHERE book = :book AND batch = :batch
-            AND kind IN ({words}) ORDER BY row""",
+            f"""SELECT row, line FROM act {self.indexed("act_batch")}
+            WHERE book = :book AND batch = :batch AND kind IN ({words}) ORDER BY row""",
             book=book,
             batch=batch,
         )

@@ -45,6 +45,10 @@ class Books:
         with reaching(self.engine.connect) as link:
             return list(link.execute(text(statement), values).all())
 
+    def indexed(self, name: str) -> str:
+        """Names the index of a table to SQLite, which would read all of a book by itself."""
+        return f"INDEXED BY {name}" if self.is_sqlite else ""
+
     def number(self, hall: str, name: str) -> int | None:
         found = self.ask(
             "SELECT id FROM book WHERE name = :name AND (:hall = '' OR hall = :hall)",
@@ -59,7 +63,8 @@ class Books:
         """The products of a book, with their tares as they now are."""
         goods: dict[str, Goods] = {}
         for (line,) in self.ask(
-            "SELECT line FROM act WHERE book = :book AND kind IN ('product', 'tare') ORDER BY row",
+            f"""SELECT line FROM act {self.indexed("act_kind")}
+            WHERE book = :book AND kind IN ('product', 'tare') ORDER BY row""",
             book=book,
         ):
             match read_line(line).act:
@@ -77,8 +82,9 @@ class Books:
         batches: dict[int, Batch] = {}
         rows = ", ".join(map(str, only))
         of = f"row IN ({rows})" if rows else "kind = 'open'"
+        hint = "" if rows else self.indexed("act_kind")
         for row, line in self.ask(
-            f"SELECT row, line FROM act WHERE book = :book AND {of} ORDER BY row", book=book
+            f"SELECT row, line FROM act {hint} WHERE book = :book AND {of} ORDER BY row", book=book
         ):
             act = read_line(line).act
             assert isinstance(act, Open)
@@ -152,8 +158,9 @@ class Books:
     def add_acts(self, book: int, batch: Batch) -> None:
         """Takes in what was done with a batch: its draws, what was measured, its verdict."""
         for (line,) in self.ask(
-            "SELECT line FROM act WHERE book = :book AND batch = :batch AND kind IN"
-            " ('end', 'draw', 'second', 'measure', 'close') ORDER BY row",
+            f"""SELECT line FROM act {self.indexed("act_batch")} WHERE book = :book
+            AND batch = :batch AND kind IN ('end', 'draw', 'second', 'measure', 'close')
+            ORDER BY row""",
             book=book,
             batch=batch.row,
         ):

@@ -9,14 +9,14 @@ from typing import Any
 from fastapi import Body, FastAPI, Header, HTTPException, Path, Query
 from fastapi.responses import JSONResponse, PlainTextResponse, StreamingResponse
 
-from hall_archive import evidence, nets, report_pages, store
+from hall_archive import evidence, nets, report_pages, store, witness
 from hall_archive.evidence import BadEvidence, Record
 from hall_archive.reading import NAME
 from hall_archive.records import Records
 from hall_archive.rows import MAX_ROWS
 from hall_archive.packs import Wanted
 from hall_archive.search import Search
-from hall_archive.settings import Settings
+from hall_archive.settings import BadSettings, Settings
 from hall_archive.spans import BadQuestion, Behind, Time
 from hall_archive.taking import Unkept
 
@@ -56,6 +56,7 @@ def make_app(settings: Settings) -> Any:
     add_questions(app, search, halls)
     add_texts(app, search, halls)
     add_evidence(app, records, halls, settings.days)
+    add_witness(app, settings, halls)
     report_pages.add_months(app, settings, halls.of)
     return app
 
@@ -169,6 +170,21 @@ def add_texts(app: Any, search: Search, halls: Halls) -> None:
         """The register of a book, as `hall export` prints it."""
         number = search.one_book(halls.of(x_book), book)
         return StreamingResponse(search.register(number), media_type="text/csv")
+
+
+def add_witness(app: Any, settings: Settings, halls: Halls) -> None:
+    @app.get("/witness/{book}/{row}")  # type: ignore[misc]
+    def fingerprint(book: str, row: int = Row, x_book: str = Front) -> Any:
+        """The first line of a book's witness with the fingerprint of `hall audit` that has a row;
+        404 as long as there is none."""
+        try:
+            path = settings.witness(settings.book(book, halls.of(x_book)))
+            line = witness.fingerprinted(path, row)
+        except (BadSettings, witness.Differs) as fault:
+            raise HTTPException(404, str(fault)) from fault
+        if line is None:
+            raise HTTPException(404, f"no fingerprint of {book} has row {row} yet")
+        return line._asdict()
 
 
 def add_evidence(app: Any, records: Records, halls: Halls, days: dict[str, int]) -> None:

@@ -85,6 +85,18 @@ def read_lines(text: str) -> list[Line]:
     return lines
 
 
+def fingerprinted(path: str, row: int) -> Line | None:
+    """The first line of a witness with a fingerprint of `audit` that has a row; None without one.
+    A line that is being written is left out. Differs where the lines aren't chained."""
+    try:
+        with open(path, encoding="ascii") as file:
+            text = file.read()
+    except FileNotFoundError:
+        return None
+    lines = read_lines(text[: text.rfind("\n") + 1])
+    return next((line for line in lines if line.audit and line.rows >= row), None)
+
+
 class Running:
     """The SHA-256 of the rows 1 to `rows`, which goes on with the rows behind them."""
 

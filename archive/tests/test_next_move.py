@@ -61,6 +61,8 @@ class Machine(Place):
         self.asked.append(" ".join(words))
         if self.fails and self.fails in words:
             raise Failed("it fails")
+        if "report" in words:
+            return "batch A product oil nominal 500.000 ml tne 15.000 ml density 912.500\n"
         return "1 batch A\n" if words[0] == "/lib/planned" else ""
 
     def of_hall(self, command: str, path: str, *words: str, given: str = "") -> str:
@@ -91,6 +93,7 @@ class Moves(unittest.TestCase):
         self.place = Machine(self.folder)
         self.place.active = {"hall@a", "hall-archive-follow@a"}
         self.place.enabled = {"hall@a", "hall-archive-follow@a", "hall-day@a.timer"}
+        self.lists: list[str] = []
         self.move = self.decided()
 
     def decided(self, plan: str = "") -> Move:
@@ -103,7 +106,8 @@ class Moves(unittest.TestCase):
 
     def hand_over(self) -> None:
         closed = OPEN.replace("drawn", "closed")
-        self.place.lists = [closed, closed, DAY]
+        # as lanes are looked at, of the old book, of the next one
+        self.place.lists = self.lists or [closed, closed, DAY]
         with redirect_stdout(io.StringIO()):
             HandOver(self.move).run()
 
@@ -139,20 +143,40 @@ class Moves(unittest.TestCase):
         self.assertNotIn("stop hall@a", self.place.asked)
         self.assertIn("hall@a-2", self.place.active)
 
-    def test_takes_back(self) -> None:
-        self.place.fails = "/lib/planned"
+    def test_what_lanes_weigh_is_asked_before_anything_is_stopped(self) -> None:
+        self.lists = [DAY]
+        with self.assertRaisesRegex(Failed, "weighs A, which a lacks"):
+            self.hand_over()
+        self.assertEqual(self.place.active, {"hall@a", "hall-archive-follow@a"})
+        self.move.known["plan"] = f"{self.folder}/a.toml"
+        with redirect_stdout(io.StringIO()):
+            HandOver(self.move).run()
+        self.assertEqual(read(f"{self.folder}/a-2.toml"), "reserve = 4\n")
+
+    def test_a_batch_by_volume_is_opened_at_its_density(self) -> None:
+        oil = DAY.replace("rice250", "oil").replace(" g tare", " ml tare")
+        self.lists = [f"{oil}batch A product oil state closed population 1\n", oil, oil]
+        self.hand_over()
+        self.assertIn("@164 1 open A oil 912.500\n", read(f"{self.folder}/a-2.toml"))
+
+    def fails_as_the_front_is_reloaded(self) -> None:
+        self.place.active.add("nginx")
+        self.place.fails = "reload nginx"
         with self.assertRaises(Failed):
             self.hand_over()
+        self.assertTrue(self.there("a-2.book"))
+        self.place.fails = ""
+
+    def test_takes_back(self) -> None:
+        self.fails_as_the_front_is_reloaded()
         HandOver(self.move).take_back()
-        self.assertEqual(self.place.active, {"hall@a", "hall-archive-follow@a"})
+        self.assertEqual(self.place.active, {"hall@a", "hall-archive-follow@a", "nginx"})
         for name in ("a-2.book", "a-2.env", "a-2.toml"):
             self.assertFalse(self.there(name), name)
         self.assertEqual(Move(self.place, "a").done(), [])
 
     def test_killed_as_it_takes_back_the_hall_is_begun_again(self) -> None:
-        self.place.fails = "/lib/planned"
-        with self.assertRaises(Failed):
-            self.hand_over()
+        self.fails_as_the_front_is_reloaded()
         self.place.fails = "start hall@a"
         with self.assertRaises(Failed):
             HandOver(self.move).take_back()
@@ -160,7 +184,7 @@ class Moves(unittest.TestCase):
         self.place.fails = ""
         self.move = self.decided()
         self.hand_over()
-        self.assertEqual(self.place.active, {"hall@a-2"})
+        self.assertEqual(self.place.active, {"hall@a-2", "nginx"})
         self.assertEqual(self.move.known["ran"], ["hall-archive-follow@a"])
 
     def test_each_step_afterwards_is_by_itself(self) -> None:

@@ -16,6 +16,7 @@ from hall_archive.witness import (
     Witness,
     check,
     fingerprint,
+    fingerprinted,
     read_lines,
     read_shipment,
     without_newest,
@@ -56,6 +57,18 @@ class Lines(unittest.TestCase):
             head = b"AQHSHIP2" + rows.to_bytes(4, "little") + bytes(4)
             due = hashlib.sha256(head + BODY[: rows * 96]).hexdigest()
             self.assertEqual(held.fingerprint(rows), due)
+
+    def test_the_line_with_a_fingerprint_of_a_row(self) -> None:
+        self.assertIsNone(fingerprinted(self.path, 1))
+        said = self.write()
+        with open(self.path, "a", encoding="ascii") as file:
+            file.write("2025-12-01T")
+        for row, line in ((1, said[1]), (12, said[1])):
+            self.assertEqual(str(fingerprinted(self.path, row)), line)
+        self.assertIsNone(fingerprinted(self.path, 13))
+        with open(self.path, "a", encoding="ascii") as file:
+            file.write("\n")
+        self.assertRaises(Differs, fingerprinted, self.path, 1)
 
     def test_what_a_line_says(self) -> None:
         first, second, _ = self.write()

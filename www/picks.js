@@ -4,7 +4,7 @@
 import * as office from "./office.js";
 import { addWords, say } from "./words.js";
 import { count, grams, quantity } from "./numbers.js";
-import { loadStyles, make, put } from "./page.js";
+import { loadStyles, make, notice, put } from "./page.js";
 import { table } from "./parts.js";
 import { packAt } from "./packs.js";
 import { packsOf } from "./batchpacks.js";
@@ -19,7 +19,7 @@ addWords({
   pickPlace: ["No. on its lane", "Nr. auf ihrer Linie"],
   pickFound: ["Found", "Gefunden"],
   labels: ["Labels (ZPL)", "Etiketten (ZPL)"],
-  back: ["Back", "Zurück"],
+  pickNone: ["No sample of this batch was drawn.", "Von dieser Charge ist keine Probe gezogen."],
 });
 
 const plain = (text) => text.replace(/[^A-Za-z0-9 ./-]/g, (letter) =>
@@ -69,24 +69,51 @@ function listTable(sheet, packs) {
     ["right", "right", "right", "right", "right", ""]);
 }
 
-// Draws the pick list into a place, with buttons to print it and to save its labels.
-export async function open(place, sheet, leave) {
-  await loadStyles("tables.css");
+function button(text, kind, act) {
+  const made = make("button", { type: "button", className: kind }, text);
+  made.addEventListener("click", act);
+  return made;
+}
+
+// ---- the page
+
+const page = { about: "", isOpen: false, isBusy: false };
+
+export async function build(section) {
+  await loadStyles("parts.css", "tables.css", "forms.css");
+  page.place = section;
+}
+
+// The pick list of a batch, with buttons to print it and to save its labels.
+async function open(batch) {
+  const sheet = await office.sheet(batch);
+  const back = make("a", { className: "button second", href: `#desk/${batch}` }, say("desk"));
+  if (!sheet.first) {
+    page.place.replaceChildren(make("h1", {}, batch), notice("", "idle", say("pickNone"),
+      make("p", {}, back)));
+    return;
+  }
   const said = make("p", { role: "status", className: "quiet" });
-  place.replaceChildren(make("section", { className: "panel picklist" }, said));
+  page.place.replaceChildren(make("h1", { className: "unseen" }, `${say("picks")} ${batch}`),
+    make("section", { className: "panel" }, said));
   const packs = await drawnPacks(sheet, (found, all) => {
     put(said, say("pickReads", { found: count(found), all: count(all) }));
-    return place.contains(said);
+    return said.isConnected;
   });
-  if (!place.contains(said)) return;
   put(said, `${sheet.product} · ${quantity(sheet.quantity)} ${sheet.unit}. ${say("pickHint")}`);
-  const button = (text, kind, act) => {
-    const made = make("button", { type: "button", className: kind }, text);
-    made.addEventListener("click", act);
-    return made;
-  };
   said.after(make("div", { className: "scroll" }, listTable(sheet, packs)),
     make("p", { className: "acts no-print" }, button(say("print"), "", () => print()),
-      button(say("labels"), "second", () => download(`${sheet.batch}.zpl`,
-        zplOf(sheet.batch, packs))), button(say("back"), "second", leave)));
+      button(say("labels"), "second", () => download(`${batch}.zpl`, zplOf(batch, packs))), back));
+}
+
+export async function show(batch) {
+  Object.assign(page, { about: batch, isOpen: false, isBusy: true });
+  await open(batch).finally(() => { page.isBusy = false; });
+  page.isOpen = true;
+}
+
+export async function refresh() {
+  await office.summary();
+  // no answer came as it was opened
+  if (!page.isOpen && !page.isBusy) await show(page.about);
 }
