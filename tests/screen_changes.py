@@ -119,7 +119,7 @@ def check_page(room, wall, anna):
 
 def check_scan(wall, anna):
     """By a scanner that types at the lane's page, also while a button has the focus."""
-    anna.find(".st-void").send_keys("")
+    anna.find(".st-void:enabled").send_keys("")
     body = anna.find("body")
     took = time_on(wall, 1, OPENED[1], lambda: body.send_keys(f"batch {OPENED[1]}", Keys.ENTER))
     anna.wait_text("#lane dialog .said", "Lane 1 weighs NOON now")
