@@ -38,7 +38,7 @@ def keep(settings: Settings, words: argparse.Namespace) -> int:
         digest = month.keep()
     except (BadPeriod, OSError) as fault:
         raise BadSettings(str(fault)) from fault
-    except (NotKept, NotDrawn) as fault:
+    except (NotKept, NotDrawn, report_forms.NotInstalled) as fault:
         print(f"hall-archive: {words.book}: {fault}", file=sys.stderr)
         return 1
     print(f"{month.folder}: {kept_folder.verify(month.folder)}")
@@ -57,8 +57,12 @@ def report(settings: Settings, words: argparse.Namespace) -> int:
     if words.form == "json":
         print(json.dumps(found.shown(), indent=1))
         return 0
+    try:
+        said = report_forms.made(words.form, found.shown(), words.language)
+    except report_forms.NotInstalled as fault:
+        raise BadSettings(str(fault)) from fault
     sys.stdout.flush()
-    sys.stdout.buffer.write(report_forms.made(words.form, found.shown(), words.language))
+    sys.stdout.buffer.write(said)
     sys.stdout.buffer.flush()
     return 0
 

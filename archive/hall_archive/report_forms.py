@@ -5,8 +5,11 @@ import io
 from collections.abc import Callable, Iterator
 from typing import Any
 
-from hall_archive import report_sheet
 from hall_archive.rows import grams
+
+# The packages that a form needs beside those of the archive. They are recommended alone: without
+# them all else works.
+PACKAGES = {"xlsx": "python3-openpyxl", "pdf": "weasyprint"}
 
 # The columns of a table; masses are in grams with three places there, times in seconds.
 COUNTS: tuple[str, ...] = (
@@ -42,6 +45,10 @@ MORE: tuple[str, ...] = (
 MORE += ("withheld", "empty")
 TIMES = ("running", "stopped")
 COLUMNS = ("part", "name", "product", "lane", *COUNTS, *MASSES, *MEANS, *MORE, *TIMES, "rows")
+
+
+class NotInstalled(Exception):
+    """A form needs a package that isn't installed; the text says which."""
 
 
 def plain(name: str, value: Any) -> Any:
@@ -83,6 +90,8 @@ def as_csv(report: dict[str, Any], _: str) -> bytes:
 
 
 def as_sheet(report: dict[str, Any], language: str) -> bytes:
+    from hall_archive import report_sheet
+
     return report_sheet.workbook(report, table(report), language)
 
 
@@ -101,4 +110,10 @@ FORMS: dict[str, tuple[Maker, str]] = {
 
 
 def made(form: str, report: dict[str, Any], language: str) -> bytes:
-    return FORMS[form][0](report, language)
+    """The report in this form. NotInstalled where the form's package isn't there."""
+    try:
+        return FORMS[form][0](report, language)
+    except ImportError as fault:
+        if form not in PACKAGES:
+            raise
+        raise NotInstalled(f"a report as {form} needs the package {PACKAGES[form]}") from fault

@@ -51,6 +51,10 @@ def add_months(app: Any, settings: Settings, hall_of: Callable[[str], str]) -> N
     def bad_period(_: Any, fault: BadPeriod) -> Any:
         return JSONResponse({"detail": str(fault)}, 422)
 
+    @app.exception_handler(report_forms.NotInstalled)  # type: ignore[misc]
+    def not_installed(_: Any, fault: report_forms.NotInstalled) -> Any:
+        return JSONResponse({"detail": str(fault)}, 501)
+
     @app.exception_handler(NotDrawn)  # type: ignore[misc]
     def not_drawn(_: Any, fault: NotDrawn) -> Any:
         return JSONResponse({"detail": str(fault)}, 500)
