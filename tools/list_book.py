@@ -39,7 +39,6 @@ REFUSALS = (
                 r"\(\s*(?P<number>\d+),\s*Refusal::(?P<name>\w+)",
                 whole=True,
             ),
-            Place("crates/run_notices/src/meanings.rt", r"MEANINGS: \[&str; (?P<count>\d+)\]"),
             Place("crates/plain_book_tests/src/met.rt", r"SIGNALS: usize = (?P<count>\d+)", more=1),
         ),
     ),
@@ -49,6 +48,12 @@ REFUSALS = (
         (
             Place("www/refusals_en.js", SENTENCE_OF, whole=True, ordered=True),
             Place("www/refusals_de.js", SENTENCE_OF, whole=True, ordered=True),
+            Place(
+                "crates/run_notices/src/meanings.rt",
+                r"Refusal::(?P<name>\w+)",
+                whole=True,
+                ordered=True,
+            ),
             # no line has a day that isn't in range
             Place("tests/days/*.txt", r"refused \d+ (?P<name>\w+)", without=("dayrange",)),
         ),
