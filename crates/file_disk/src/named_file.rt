@@ -8,6 +8,7 @@ use std::io;
 use std::io::{ErrorKind, Seek, SeekFrom};
 use std::os::fd::AsRawFd;
 use std::os::unix::fs::{FileExt, MetadataExt};
+use std::path::PathBuf;
 use std::rt::Files;
 
 /// An open file, and the path that it was opened by. It may have zeros behind the bytes that count,
@@ -239,15 +240,21 @@ impl NamedFile {
         }
     }
 
-    // Whether the path leads to where the system says that the open file is. It doesn't where either
-    // can't be told, as without memory for the names.
+    // Whether the path leads to where the system says that the open file is: a path that is its name
+    // there does, since the system's name goes through no link. It doesn't where either can't be
+    // told, as without memory for the names.
     fn is_called_so<R: Files<File = File> + AllocGlobal>(&self, rt: &R) -> bool {
-        match (
-            canonicalize(rt, self.path.as_str()),
-            read_link(rt, self.link.as_str()),
-        ) {
-            (Ok(led), Ok(called)) => led == called,
-            _ => false,
+        match read_link(rt, self.link.as_str()) {
+            Ok(called) => called.as_str() == self.path.as_str() || self.leads_to(rt, &called),
+            Err(_) => false,
+        }
+    }
+
+    // Whether the path leads to the file of this name, which goes through no link.
+    fn leads_to<R: Files<File = File> + AllocGlobal>(&self, rt: &R, called: &PathBuf) -> bool {
+        match canonicalize(rt, self.path.as_str()) {
+            Ok(led) => led == *called,
+            Err(_) => false,
         }
     }
 
