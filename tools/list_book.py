@@ -115,7 +115,6 @@ ACTS_AND_QUESTIONS = (
             Place("docs/FORMATS.md", WORD_ROW, chapter("The output"), True),
             Place("docs/FORMATS.md", r"\bacts, the last (?P<count>\w+) questions"),
             Place("docs/RULES.md", r"^\*\*Questions\.\*\* There are (?P<count>\w+)"),
-            Place("docs/promises/book.md", r"\band all (?P<count>\w+) questions"),
         ),
     ),
     List(
@@ -165,6 +164,7 @@ QUESTION = List(
             whole=True,
         ),
         Place("crates/office_wire_tests/src/*.rt", r"Question::(?P<name>\w+)", whole=True),
+        Place("docs/promises/book.md", r"\band all (?P<count>\w+) questions"),
     ),
 )
 
