@@ -229,6 +229,23 @@ ENDINGS_OF_JOBS = (
         (Place("docs/FORMATS.md", WORD_ROW, chapter("The line of a door"), True),),
     ),
     List(
+        "stop of a lane that is early",
+        (
+            Place(
+                "crates/call_endings/specs/Endings.antt",
+                r"^is_early_stop \(?lane\.(?P<name>\w+).* = true",
+            ),
+        ),
+        (
+            Place(
+                "docs/promises/transcript.md",
+                IN_TICKS,
+                r"^\| a lane with (.*?) \| 10 \|$",
+                True,
+            ),
+        ),
+    ),
+    List(
         "status after which the service doesn't start",
         (Place("deploy/hall@.service", r"\b(?P<number>\d+)", r"^RestartPreventExitStatus=(.*?)$"),),
         (
