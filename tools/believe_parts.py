@@ -8,7 +8,8 @@ from typing import Iterable, NamedTuple
 
 TOP = os.path.dirname(os.path.dirname(os.path.realpath(__file__)))
 
-# A line that takes words of a file of definitions: its crate, its module, the words, and its name here.
+# A line that takes words of a file of definitions: its crate, its module, the words, and what the
+# module is called here.
 USE = re.compile(
     r"^\s*(?:pub |ghost )?use Rattle\.(\w+)\.specs\.([\w.]+?)(?:\.\{([^}]*)\}| as (\w+))?;?$", re.M
 )
@@ -77,7 +78,7 @@ def definitions(path: str) -> dict[str, str]:
 
 @cache
 def taken(path: str) -> tuple[dict[str, tuple[str, str]], dict[str, str]]:
-    """What a file takes from others: words, each with its file and its name there, and whole modules."""
+    """What a file takes from others: words, each with its file and its name there, and modules."""
     words, modules = dict[str, tuple[str, str]](), dict[str, str]()
     for crate, module, list_of, name in uses(path):
         at = file_of(crate, module)
