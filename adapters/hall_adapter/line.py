@@ -15,7 +15,7 @@ import time
 from collections.abc import Coroutine
 from typing import Any
 
-from hall_adapter.devices import BadTable, load
+from hall_adapter.devices import load
 from hall_adapter.filler import Mean, spell_advice
 from hall_adapter.gates import CommandGate, LineGate, gate_of
 from hall_adapter.hall_link import BadGate, HallLink
@@ -25,11 +25,11 @@ from hall_adapter.metrics import serve
 from hall_adapter.modbus import Order, Poller
 from hall_adapter.pulses import read_pulses
 from hall_adapter.readings import REASONS, Note, Reading
-from hall_adapter.register_maps import Registers, device_behind, load_map
+from hall_adapter.register_maps import RegisterMap, Registers, device_behind, load_map
 from hall_adapter.reject import STOPPING, Confirmation
 from hall_adapter.reports import Reports
 from hall_adapter.serial_lines import serial_pieces
-from hall_adapter.settings import Filler, Settings, load_settings
+from hall_adapter.settings import Filler, Settings, load_settings, need_fit
 from hall_adapter.tcp_lines import tcp_pieces
 from hall_adapter.voids import Voids
 
@@ -44,7 +44,7 @@ NO_PACK = {"word", "light"}
 class Line:
     """A line, and what stands at it. Its methods run one at a time, on the thread of the loop."""
 
-    def __init__(self, settings: Settings) -> None:
+    def __init__(self, settings: Settings, made: RegisterMap | None) -> None:
         self.settings = settings
         self.reports = Reports(settings)
         self.metrics = self.reports.metrics
@@ -64,8 +64,7 @@ class Line:
         self.gate: CommandGate | LineGate | None = None
         self.poller: Poller | None = None
         self.registers: Registers | None = None
-        if settings.map:
-            made = load_map(settings.map)
+        if made:
             self.engine = Engine(device_behind(made))
             self.registers = Registers(made, self.engine)
         else:
@@ -360,12 +359,12 @@ async def run_until_ended(line: Line) -> None:
 def run(path: str) -> int:
     """Runs the line of these settings."""
     settings = load_settings(path)
-    if settings.map and settings.reject and load_map(settings.map).reject is None:
-        if not settings.reject.pulses:
-            raise BadTable(f"{path}: [reject] needs `pulses`, or a map with [reject]")
+    made = load_map(settings.map) if settings.map else None
+    if made:
+        need_fit(path, settings, made)
     status = 0
     try:
-        asyncio.run(run_until_ended(Line(settings)))
+        asyncio.run(run_until_ended(Line(settings, made)))
     except* (BadGate, OSError) as faults:
         status = 1
         for fault in faults.exceptions:

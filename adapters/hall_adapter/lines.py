@@ -6,6 +6,7 @@ the device's counter. Nothing here reads or writes.
 
 import functools
 import operator
+import re
 from collections import Counter as Tally
 from decimal import Decimal
 
@@ -17,6 +18,9 @@ from hall_adapter.readings import REASONS, WEIGHT, Note, Reading, spell
 LEAST, MOST = 1_000, 30_000_000
 # How much of a line is shown.
 SHOWN = 64
+# What a weight and a counter look like, whatever the pattern of a table takes in.
+WEIGHED = re.compile(r"[+-]?\d{1,12}(?:[.,]\d{1,12})?", re.ASCII)
+COUNTED = re.compile(r"\d{1,15}", re.ASCII)
 
 
 def left_out(reason: str, line: bytes, counter: int | None = None) -> Note:
@@ -115,16 +119,21 @@ def milligrams(text: str, unit: str) -> int | None:
 def counted(fields: dict[str, str]) -> int | None:
     """The device's number of a pack."""
     counter = fields.get("counter", "").strip()
-    return int(counter) if counter else None
+    return int(counter) if COUNTED.fullmatch(counter) else None
 
 
 def weigh(fields: dict[str, str], unit: str) -> Reading | str:
-    """The reading of a line that means a weight, or why it gives none."""
-    if fields.get("sign", "").strip() == "-":
+    """The reading of a line that means a weight, or why it gives none. A pattern may take more in
+    than digits: then the line is none."""
+    weight = fields["weight"].strip()
+    has_counter = "counter" not in fields or counted(fields) is not None
+    if not WEIGHED.fullmatch(weight) or not has_counter:
+        return "form"
+    if fields.get("sign", "").strip() == "-" or weight.startswith("-"):
         return "negative"
     if fields.get("unit", unit).strip() != unit:
         return "unit"
-    mass = milligrams(fields["weight"].strip(), unit)
+    mass = milligrams(weight, unit)
     if mass is None:
         return "fine"
     if not LEAST <= mass <= MOST:

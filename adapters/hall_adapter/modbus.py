@@ -13,12 +13,13 @@ from collections.abc import Callable
 from typing import Any
 
 from hall_adapter.register_maps import Link, RegisterMap
-from hall_adapter.settings import address_of
+from hall_adapter.tables import BadTable, address_of
 
 # Seconds until a link is tried again, and for how long an answer is waited for.
 RETRY = 0.5
 PATIENCE = 1.0
 WORD = 65_536
+PACKAGES = "Debian's packages python3-pymodbus, python3-serial and python3-serial-asyncio"
 
 # What the thread is told to do: to let a pack out, or to write advice.
 Order = tuple[str, int]
@@ -30,8 +31,10 @@ class LinkFault(Exception):
 
 def client_of(link: Link) -> Any:
     """A client of pymodbus."""
-    from pymodbus.client import ModbusSerialClient, ModbusTcpClient  # type: ignore[import]
-
+    try:
+        from pymodbus.client import ModbusSerialClient, ModbusTcpClient  # type: ignore[import]
+    except ImportError:
+        raise BadTable(f"a map needs {PACKAGES}") from None
     logging.getLogger("pymodbus").setLevel(logging.CRITICAL)
     ways = {"timeout": PATIENCE, "retries": 0}
     if link.tcp:

@@ -7,7 +7,8 @@ import asyncio
 import socket
 from collections.abc import AsyncIterator
 
-from hall_adapter.settings import Source, address_of
+from hall_adapter.settings import Source
+from hall_adapter.tables import address_of
 
 # Seconds until a connection is tried again.
 RETRY = 0.5

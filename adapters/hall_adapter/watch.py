@@ -14,12 +14,11 @@ from collections.abc import Callable
 from functools import partial
 
 from hall_adapter.book_rows import BookRows
-from hall_adapter.devices import BadTable, read_table
 from hall_adapter.followers import ArchiveFollower, tell_copy, tell_list
 from hall_adapter.hall_texts import Sheet, batch_of_lane, connections_of, sheet_of, summary_of
 from hall_adapter.metrics import Metrics, merged, serve
 from hall_adapter.office import Office
-from hall_adapter.watch_settings import Watched, watched_of
+from hall_adapter.watch_settings import Watched, load_watched
 
 SOCKETS = "/proc/net/tcp"
 PILES = ("passed", "rejected", "sampled", "voided")
@@ -180,10 +179,7 @@ def tell_sheet(metrics: Metrics, batch: str, sheet: Sheet) -> None:
 
 def run(path: str) -> int:
     """Hands the numbers out until it is ended."""
-    try:
-        watch = Watch(watched_of(read_table(path)))
-    except BadTable as bad:
-        raise BadTable(f"{path}: {bad}") from None
+    watch = Watch(load_watched(path))
     try:
         asyncio.run(serve(watch.settings.listen, watch.text))
     except KeyboardInterrupt:
