@@ -10,11 +10,10 @@ or has a wrong check character, or there is no weight. 2: the table or the file 
 
 from collections.abc import Iterator
 
-from hall_adapter.devices import load, path_of
+from hall_adapter.devices import find, load
 from hall_adapter.lines import Engine, describe
 from hall_adapter.readings import Note, Reading
 from hall_adapter.register_maps import is_map, load_map, recorded
-from hall_adapter.tables import read_table
 
 # Kinds of notes that say that the table isn't the device's, or the line is bad.
 FAULTS = {"form", "check", "long", "cut"}
@@ -31,20 +30,18 @@ def told_of(told: list[Reading | Note]) -> Iterator[str]:
             yield f"{one.kind}: {one.text}"
 
 
-def summary(engine: Engine) -> list[str]:
+def summary(engine: Engine, strange: str) -> list[str]:
     """The counts of all that was seen, and what to look at where no weight is among it."""
     notes = ", ".join(f"{kind} {count}" for kind, count in sorted(engine.notes.items()))
     counts = f"{engine.handed} weights; {notes or 'nothing else'}"
-    return [counts] if engine.handed else [f"no weight: {why_none(engine)}", counts]
+    return [counts] if engine.handed else [f"no weight: {why_none(engine, strange)}", counts]
 
 
-def why_none(engine: Engine) -> str:
-    """Why a recording may have no weight."""
+def why_none(engine: Engine, strange: str) -> str:
+    """Why a recording may have no weight; `strange` where each of its lines is."""
     if not engine.notes:
         return "nothing was recorded, or no pack came"
-    if set(engine.notes) <= FAULTS:
-        return "no line is of this device: see to the table, and to the line's speed, bits, parity"
-    return "the device sent none that is a pack's"
+    return strange if set(engine.notes) <= FAULTS else "the device sent none that is a pack's"
 
 
 def fits(engine: Engine) -> bool:
@@ -59,18 +56,21 @@ def check_lines(name: str, stream: bytes) -> tuple[list[str], bool]:
     for place in range(0, len(stream), PIECE):
         said += told_of(engine.feed(stream[place : place + PIECE]))
     said += told_of(engine.cut())
-    return [*said, *summary(engine)], fits(engine)
+    strange = "no line is of this device: see to the table, and to the line's speed, bits, parity"
+    return [*said, *summary(engine, strange)], fits(engine)
 
 
 def check_registers(name: str, stream: bytes) -> tuple[list[str], bool]:
     """What recorded registers would give, and whether the map fits them."""
-    engine, told = recorded(load_map(name), stream.decode("ascii", "replace"))
-    return [*told_of(told), *summary(engine)], fits(engine)
+    made = load_map(name)
+    engine, told = recorded(made, stream.decode("ascii", "replace"))
+    strange = f"no line has the {made.count()} words in hex that this map reads: record it anew"
+    return [*told_of(told), *summary(engine, strange)], fits(engine)
 
 
 def check(name: str, stream: bytes) -> tuple[list[str], bool]:
     """What a recorded stream would give by a table or a map."""
-    of_registers = is_map(read_table(path_of(name)))
+    of_registers = is_map(find(name)[1])
     return check_registers(name, stream) if of_registers else check_lines(name, stream)
 
 

@@ -25,6 +25,7 @@ from hall_adapter.tables import (
     choice_of,
     named,
     need,
+    need_kind,
     number_of,
     only,
     part_of,
@@ -140,6 +141,7 @@ def counter_of(table: Table) -> Range:
 
 def device_of(table: Table) -> Device:
     """The device of a table that was read."""
+    need_kind(table, "follows")
     only(table, {"name", "follows", "unit", "frame", "line", "counter"})
     forms = tuple(named("[[line]]", lambda: form_of(form)) for form in tables_of(table, "line"))
     weighing = [form for form in forms if WEIGHT in form_words(form)]
@@ -166,10 +168,17 @@ def path_of(name: str) -> str:
     return name if "/" in name or name.endswith(".toml") else os.path.join(FOLDER, f"{name}.toml")
 
 
+def find(name: str) -> tuple[str, Table]:
+    """The path of a table or a map, and what stands there."""
+    path = path_of(name)
+    is_there = name == path or os.path.exists(path)
+    need(is_there, f"there is no table {name}: it is one of {', '.join(names())}, or a path")
+    return path, read_table(path)
+
+
 def load(name: str, unit: str | None = None) -> Device:
     """The device of a table, by its name or its path; a unit stands in place of the table's."""
-    path = path_of(name)
-    table = read_table(path)
+    path, table = find(name)
     if unit is not None:
         table["unit"] = unit
     return named(path, lambda: device_of(table))

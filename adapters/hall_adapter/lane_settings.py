@@ -24,6 +24,7 @@ from hall_adapter.tables import (
     any_part_of,
     named,
     need,
+    need_kind,
     number_of,
     only,
     part_of,
@@ -52,6 +53,7 @@ class LaneSettings:
 
 def lane_settings_of(table: Table) -> LaneSettings:
     """The settings of a table that was read."""
+    need_kind(table, "scale")
     only(table, KEYS)
     cell, sender = text_of(table, "cell", ""), words_of(table, "sender")
     need(bool(cell) != bool(sender), "`cell` or `sender` is needed, and not both")

@@ -18,6 +18,8 @@ from hall_adapter.readings import REASONS, WEIGHT, Note, Reading, spell
 LEAST, MOST = 1_000, 30_000_000
 # How much of a line is shown.
 SHOWN = 64
+# A stream without line ends is told once in so many bytes.
+TELL_ENDLESS = 1_024
 # What a weight and a counter look like, whatever the pattern of a table takes in.
 WEIGHED = re.compile(r"[+-]?\d{1,12}(?:[.,]\d{1,12})?", re.ASCII)
 COUNTED = re.compile(r"\d{1,15}", re.ASCII)
@@ -35,7 +37,10 @@ class Framer:
     def __init__(self, frame: Frame) -> None:
         self.frame = frame
         self.held = b""
+        # whether a line's end is still to come that was told to be too long, and how many bytes of
+        # it were dropped since
         self.too_long = False
+        self.dropped_bytes = 0
 
     def feed(self, piece: bytes) -> list[bytes | Note]:
         """The lines that are whole now, and notes on what is none."""
@@ -47,21 +52,31 @@ class Framer:
 
     def cut(self) -> list[Note]:
         """The stream broke off: what is held of a line is none."""
-        rest, self.held, self.too_long = self.held.strip(b"\r\n"), b"", False
-        return [left_out("cut", rest)] if rest else []
+        rest, self.held = self.held.strip(b"\r\n"), b""
+        was_told, self.too_long = self.too_long, False
+        return [left_out("cut", rest)] if rest and not was_told else []
 
     def ended(self) -> bytes | Note | None:
         """The first line, where lines only have an end."""
         line, end, rest = self.held.partition(self.frame.end)
         if not end:
-            if len(line) > self.frame.longest:
-                self.held, self.too_long = line[: self.frame.longest], True
-            return None
+            return self.endless() if len(line) > self.frame.longest else None
         self.held = rest
-        if self.too_long or len(line) > self.frame.longest:
+        if self.too_long:
             self.too_long = False
-            return left_out("long", line)
-        return line.rstrip(b"\r")
+            return self.ended()
+        return left_out("long", line) if len(line) > self.frame.longest else line.rstrip(b"\r")
+
+    def endless(self) -> Note | None:
+        """More came than a line has, and no end yet. A stream that has none, as at another speed, is
+        told now and then."""
+        line, self.held = self.held, b""
+        was_told, self.too_long = self.too_long, True
+        self.dropped_bytes += len(line)
+        if was_told and self.dropped_bytes < TELL_ENDLESS:
+            return None
+        self.dropped_bytes = 0
+        return left_out("long", line)
 
     def framed(self) -> bytes | Note | None:
         """The first line between its beginning and its end; blanks and line ends in between are

@@ -21,7 +21,7 @@ import math
 import struct
 from dataclasses import dataclass
 from decimal import Decimal
-from hall_adapter.devices import UNITS, Device, Frame, Range, path_of, states_of
+from hall_adapter.devices import UNITS, Device, Frame, Range, find, states_of
 from hall_adapter.lines import LEAST, MOST, Engine, left_out
 from hall_adapter.readings import WEIGHT, Note, Reading
 from hall_adapter.tables import (
@@ -32,10 +32,10 @@ from hall_adapter.tables import (
     choice_of,
     named,
     need,
+    need_kind,
     number_of,
     only,
     part_of,
-    read_table,
     real_of,
     seconds_of,
     text_of,
@@ -188,6 +188,7 @@ def register_of(table: Table) -> int:
 
 def map_of(table: Table) -> RegisterMap:
     """The map of a table that was read."""
+    need_kind(table, "modbus")
     only(table, {"modbus", "weight", "strobe", "state", "gate", "reject", "filler"})
     strobe, limits = part_of(table, "strobe", strobe_of)
     state, values = any_part_of(table, "state", state_of) or (None, {})
@@ -227,8 +228,7 @@ def is_map(table: Table) -> bool:
 
 def load_map(name: str) -> RegisterMap:
     """The map at a path."""
-    path = path_of(name)
-    table = read_table(path)
+    path, table = find(name)
     return named(path, lambda: map_of(table))
 
 

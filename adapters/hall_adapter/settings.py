@@ -47,6 +47,7 @@
     every = 60                       # seconds from one call of a kind to the next
 """
 
+import shutil
 from dataclasses import dataclass
 
 from hall_adapter.register_maps import RegisterMap
@@ -62,6 +63,7 @@ from hall_adapter.tables import (
     name_of,
     named,
     need,
+    need_kind,
     number_of,
     only,
     part_of,
@@ -169,6 +171,14 @@ class Settings:
     broker: Broker | None
     alarm: Alarm | None
 
+    def told(self) -> str:
+        """Which line this is, as it is said where it begins."""
+        where = self.map
+        if source := self.source:
+            place = f"listens at {source.listen}" if source.listen else source.serial or source.tcp
+            where = f"{self.device}, {place}"
+        return f"{self.name}: {where}; lane {self.lane} at port {self.port}"
+
 
 def milligrams_of(table: Table, key: str) -> int:
     """A number of grams above 0 or 0, in milligrams."""
@@ -272,6 +282,7 @@ def metrics_of(table: Table) -> tuple[str, int]:
 
 def settings_of(table: Table) -> Settings:
     """The settings of a table that was read. What belongs to a map is looked at by `need_fit`."""
+    need_kind(table, "hall")
     only(table, {"name", "lane", "device", "map"} | PARTS)
     name, device, registers = (
         name_of(table, "name"),
@@ -323,6 +334,18 @@ def need_one_of_each(settings: Settings, made: RegisterMap) -> None:
         need(not has_counter, "[reject] has `pulses`, and the map a register for it too")
     else:
         need(has_counter, "[reject] needs `pulses`, or a map with [reject]")
+
+
+def need_programs(path: str, settings: Settings) -> None:
+    """The programs that the settings name are here."""
+    gate, reject, alarm = settings.gate, settings.reject, settings.alarm
+    for part, words in (
+        ("gate", gate.command if gate else ()),
+        ("reject", reject.pulses if reject else ()),
+        ("alarm", alarm.command if alarm else ()),
+    ):
+        is_here = not words or shutil.which(words[0]) is not None
+        need(is_here, f"{path}: [{part}]: {''.join(words[:1])} is no program here")
 
 
 def load_settings(path: str) -> Settings:

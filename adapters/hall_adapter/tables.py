@@ -12,6 +12,15 @@ import urllib.parse
 from collections.abc import Callable
 from typing import Any, TypeVar
 
+# A key that files of one kind alone have, and that each has.
+KINDS = {
+    "modbus": "a map for Modbus",
+    "follows": "the table of a device",
+    "hall": "the settings of a line",
+    "scale": "the settings of a lane that changes its batch",
+    "book": "the settings of the numbers of a hall",
+}
+
 Table = dict[str, Any]
 T = TypeVar("T")
 # The greatest port.
@@ -28,6 +37,15 @@ def need(holds: bool, said: str) -> None:
     """Raises where a table isn't as it has to be."""
     if not holds:
         raise BadTable(said)
+
+
+def need_kind(table: Table, key: str) -> None:
+    """Raises where a file is known to be one of another kind: a key tells it from each other."""
+    others = [kind for other, kind in KINDS.items() if other in table]
+    need(
+        key in table or not others,
+        f"this holds {''.join(others[:1])}, and not {KINDS[key]}",
+    )
 
 
 def only(table: Table, keys: set[str]) -> None:

@@ -100,6 +100,10 @@ class Watch:
                     settings.status, stdin=subprocess.DEVNULL, capture_output=True, timeout=PATIENCE
                 )
                 self.status = ran.stdout.decode("utf-8", "replace")
+                if self.status:
+                    self.told.pop("status", None)
+                else:
+                    self.tell("status", f"{settings.status[0]} says nothing{why_of(ran)}")
             except (OSError, subprocess.TimeoutExpired) as fault:
                 self.status = ""
                 self.tell("status", str(fault))
@@ -163,6 +167,12 @@ class Watch:
             metrics.set("hall_doors_busy", sum(1 for count in counts.values() if count))
             for port, count in counts.items():
                 metrics.set("hall_door_connections", count, port=str(port))
+
+
+def why_of(ran: "subprocess.CompletedProcess[bytes]") -> str:
+    """The status and the last word of a command that ended."""
+    said = ran.stderr.decode("utf-8", "replace").strip().splitlines()
+    return f", and ended with status {ran.returncode}: {' '.join(said[-1:])}".rstrip(": ")
 
 
 def tell_sheet(metrics: Metrics, batch: str, sheet: Sheet) -> None:

@@ -32,6 +32,7 @@ from hall_adapter.tables import (
     name_of,
     named,
     need,
+    need_kind,
     number_of,
     numbers_of,
     only,
@@ -82,6 +83,7 @@ def archive_of(table: Table) -> tuple[str, str]:
 
 def watched_of(table: Table) -> Watched:
     """The settings of a table that was read."""
+    need_kind(table, "book")
     only(table, KEYS)
     copies = [named("[[copy]]", lambda: copy_of(copy)) for copy in tables_of(table, "copy")]
     need(len(dict(copies)) == len(copies), "two [[copy]] have one name")

@@ -56,6 +56,9 @@ class Devices(unittest.TestCase):
     def test_a_table_that_isnt_there(self) -> None:
         with self.assertRaises(BadTable) as caught:
             load("nowhere")
+        self.assertIn("no table nowhere: it is one of and, bizerba", str(caught.exception))
+        with self.assertRaises(BadTable) as caught:
+            load("./nowhere")
         self.assertIn("No such file", str(caught.exception))
 
 

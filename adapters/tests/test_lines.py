@@ -170,6 +170,19 @@ class Lines(unittest.TestCase):
             with self.subTest(text=text):
                 self.assertEqual(one.mass if isinstance(one, Reading) else one.kind, said)
 
+    def test_a_stream_without_ends_is_told(self) -> None:
+        # as at another speed: a pack's line is 30 bytes of something
+        for device in ("ishida", "bizerba", "minebea", "sics"):
+            engine = Engine(load(device))
+            told = [one for _ in range(100) for one in engine.feed(b"\xf0\x86" * 15)]
+            with self.subTest(device=device):
+                self.assertEqual({one.kind for one in told if isinstance(one, Note)}, {"long"})
+                self.assertIn(len(told), (3, 4))
+                # its end comes at last, and a good line behind it
+                self.assertEqual(engine.feed(b"\xf0\r\n"), [])
+                [one] = engine.feed(LINES[device][0][0] if device in LINES else b"S S 251.30 g\n")
+                self.assertIsInstance(one, Reading)
+
     def test_memory_is_bounded(self) -> None:
         for device in names():
             engine = Engine(load(device))

@@ -104,6 +104,16 @@ def spoiled(table: dict[str, Any], draw: random.Random) -> dict[str, Any]:
 class Refusals(unittest.TestCase):
     """Spoiled files."""
 
+    def test_a_file_of_another_kind(self) -> None:
+        kinds = {read: table for read, table in good_ones()}
+        for read in kinds:
+            for other, table in kinds.items():
+                if read is not other:
+                    with self.subTest(read=read.__name__, other=other.__name__):
+                        with self.assertRaises(BadTable) as caught:
+                            read(table)
+                        self.assertIn("this holds ", str(caught.exception))
+
     def test_each_is_taken_or_refused_with_a_sentence(self) -> None:
         draw = random.Random(74)
         good = list(good_ones())
