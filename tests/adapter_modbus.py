@@ -29,11 +29,10 @@ register = 3
 values = {{ 0 = "weight", 1 = "motion", 2 = "invalid" }}
 [gate]
 coil = 0
-[reject]
-register = 4
 [filler]
 register = 40
 """
+COUNTER = "[reject]\nregister = 4\n"
 
 
 class ModbusDevice:
@@ -110,10 +109,10 @@ class ModbusDevice:
 
 
 def modbus_line(room: Room, way: str, more: str = "") -> Line:
-    """A line over Modbus."""
+    """A line over Modbus. Its map has a counter of rejects where its settings have [reject]."""
     path = f"{room.folder}/map.toml"
     with open(path, "w", encoding="ascii") as text:
-        text.write(MAP.format(way=way))
+        text.write(MAP.format(way=way) + COUNTER * ("[reject]" in more))
     return Line(room, "modbus", 1, f'map = "{path}"', more)
 
 

@@ -23,6 +23,7 @@ def check_wrong(program: str, folder: str, packs: int, seed: str) -> None:
     room = Room(program, f"{folder}/wrong", 1)
     room.start()
     device = ModbusDevice("tcp", str(MODBUS_PORT))
+    device.put()
     desk = '[desk]\nurl = "http://127.0.0.1:8471"\nnumber = 163\n'
     more = f"within = 10.0\n[reject]\nearliest = 0.01\nlatest = 4.0\n{desk}"
     line = modbus_line(room, f'tcp = "127.0.0.1:{MODBUS_PORT}"', more)

@@ -2,7 +2,8 @@
 the queries of the dashboard. For tests/adapters.py.
 
 The numbers are a page of this file's own: a hall and a line where all is well, of which one number
-at a time is made a bad one. The rules are those of deploy/ but for how long each waits."""
+at a time is made a bad one. The rules are those of deploy/ but for how long each waits: not at all,
+and HallNumbersGone for some seconds, as a busy machine misses a look now and then."""
 
 import http.server
 import json
@@ -11,6 +12,7 @@ import re
 import subprocess
 import threading
 import time
+from typing import Any
 
 from adapter_prometheus import RULES, Prometheus
 from adapter_room import FIRST_METRICS, PATIENCE, TOP, say, wait_until
@@ -21,6 +23,7 @@ BOARD = f"{TOP}/deploy/grafana-hall.json"
 PAGE, OTHER = FIRST_METRICS + 100, FIRST_METRICS + 101
 # Seconds from one look of prometheus to the next, and in which an alarm would have come.
 EVERY, LOOKS = "500ms", 2.5
+GONE = "5s"
 LINE, BOOK = 'line="one",lane="1"', 'book="main"'
 BATCH = f'{BOOK},batch="A"'
 # What hall-status hands out, which comes from elsewhere.
@@ -136,6 +139,13 @@ GROWN: list[tuple[str, dict[str, float]]] = [
         },
     ),
 ]
+# Rows left of a book of its own, as prometheus looks back half an hour: they fall from FULL to so
+# many from one look to the next. Ten in half a second make less than 900 000 in two hours.
+FULL = 900_000
+FALLEN: list[tuple[str, str, int]] = [
+    ("", "slow", FULL - 10),
+    ("HallBookFillsSoon", "quick", FULL - 100_000),
+]
 
 
 class Page:
@@ -192,17 +202,20 @@ def check_rules(program: str, folder: str, packs: int, seed: str) -> None:
         text = source.read()
     hasty = f"{folder}/rules/hasty.yml"
     with open(hasty, "w", encoding="utf-8") as copy:
-        copy.write(re.sub(r"^ +for: .*\n", "", text, flags=re.MULTILINE))
+        copy.write(made_hasty(text))
     page, other = Page(PAGE, dict(GOOD)), Page(OTHER, {})
     prometheus = Prometheus(f"{folder}/rules", [PAGE, OTHER], hasty, EVERY)
     wait_until(lambda: len(prometheus.series("up == 1")) == 2, "prometheus has both pages")
     stays_silent(prometheus, set(), "all is well")
-    fired = fire_each(prometheus, page) | fire_grown(prometheus, page)
-    fired |= fire_gone(prometheus, other)
+    fired = fire_each(prometheus, page) | fire_fallen(prometheus, page)
+    fired |= fire_grown(prometheus, page) | fire_gone(prometheus, other)
     named = set(re.findall(r"alert: (\w+)", text))
-    need(fired == named, f"these never fired: {named - fired}")
+    need(fired == named, f"no case makes these fire: {named - fired}")
+    cases = [alarm for alarm, *_ in [*BAD, *FALLEN, *GROWN]]
+    count = sum(1 for alarm in cases if alarm) + 1
     say(
-        f"{len(named)} rules: prometheus fires each for each of {len(BAD) + len(GROWN) + 1} numbers"
+        f"{len(named)} rules: prometheus fires each, for {count} numbers alone, and none for"
+        f" {len(cases) + 1 - count} others"
     )
     # a panel names the batches that are held, and has 0 without a name where none is
     page.numbers[f"hall_batch_held{{{BATCH}}}"] = 1
@@ -210,6 +223,21 @@ def check_rules(program: str, folder: str, packs: int, seed: str) -> None:
     check_board(prometheus, text)
     prometheus.end()
     page.end()
+
+
+def made_hasty(rules: str) -> str:
+    """The rules without their waits, but for pages that are gone: a short one."""
+    before, gone, behind = rules.partition("- alert: HallNumbersGone\n")
+    before, rest = (re.sub(r"^ +for: .*\n", "", part, flags=re.M) for part in (before, behind))
+    made, count = re.subn(r"^( +)(?=labels: )", rf"\1for: {GONE}\n\1", rest, count=1, flags=re.M)
+    need(bool(gone) and count == 1, "there is no rule for pages that are gone")
+    return before + gone + made
+
+
+def are_had(prometheus: Prometheus, numbers: dict[str, float]) -> None:
+    """Waits until prometheus has these numbers."""
+    for name, value in numbers.items():
+        wait_until(lambda: prometheus.value(name) == value, f"prometheus has {name} {value}")
 
 
 def stays_silent(prometheus: Prometheus, wanted: set[str], why: str) -> None:
@@ -232,10 +260,28 @@ def fire_each(prometheus: Prometheus, page: Page) -> set[str]:
         if alarm:
             comes(prometheus, {alarm}, str(numbers))
         else:
+            are_had(prometheus, numbers)
             stays_silent(prometheus, set(), str(numbers))
         page.numbers = dict(GOOD)
         comes(prometheus, set(), f"what is well again behind {numbers}")
     return {alarm for alarm, _ in BAD if alarm}
+
+
+def fire_fallen(prometheus: Prometheus, page: Page) -> set[str]:
+    """Has the rows left of a book fall; gives which alarms were raised."""
+    for alarm, book, left in FALLEN:
+        name = f'hall_rows_left{{book="{book}"}}'
+        page.numbers = {**GOOD, name: FULL}
+        are_had(prometheus, {name: FULL})
+        page.numbers = {**GOOD, name: left}
+        if alarm:
+            comes(prometheus, {alarm}, f"{name} falls to {left}")
+        else:
+            are_had(prometheus, {name: left})
+            stays_silent(prometheus, set(), f"{name} falls to {left}")
+        page.numbers = dict(GOOD)
+        comes(prometheus, set(), f"what is well again behind {name}")
+    return {alarm for alarm, _, _ in FALLEN if alarm}
 
 
 def fire_grown(prometheus: Prometheus, page: Page) -> set[str]:
@@ -247,6 +293,7 @@ def fire_grown(prometheus: Prometheus, page: Page) -> set[str]:
             wanted.add(alarm)
             comes(prometheus, wanted, str(numbers))
         else:
+            are_had(prometheus, numbers)
             stays_silent(prometheus, wanted, str(numbers))
     return wanted
 
@@ -272,8 +319,7 @@ def check_board(prometheus: Prometheus, rules: str) -> None:
     targets = [target for panel in board["panels"] for target in panel["targets"]]
     for target in targets:
         query = target["expr"].replace("$book", ".*").replace("$line", ".*")
-        found = prometheus.series(query)
-        need(bool(found), f"prometheus has nothing for {query}")
+        found = found_for(prometheus, query)
         labels = set(re.findall(r"{{(\w+)}}", target.get("legendFormat", "")))
         need(labels <= set(found[0]["metric"]), f"{query} has no {labels}: {found[0]['metric']}")
     for words in board["templating"]["list"]:
@@ -285,6 +331,18 @@ def check_board(prometheus: Prometheus, rules: str) -> None:
     need(named <= known, f"nobody hands out {named - known}")
     need(names_in("\n".join(GOOD)) <= known, f"nobody hands out {names_in(str(GOOD)) - known}")
     say(f"dashboard: {len(targets)} queries of {len(board['panels'])} panels, each with numbers")
+
+
+def found_for(prometheus: Prometheus, query: str) -> list[Any]:
+    """The series that a query gives; there have to be some, once no look is missed."""
+    found: list[Any] = []
+
+    def are_there() -> bool:
+        found[:] = prometheus.series(query)
+        return bool(found)
+
+    wait_until(are_there, f"prometheus has numbers for {query}", 60.0)
+    return found
 
 
 def check_variable(prometheus: Prometheus, definition: str) -> None:

@@ -16,8 +16,9 @@ import argparse
 import os
 import sys
 
-from hall_adapter.devices import UNITS, BadTable, load, names
+from hall_adapter.devices import UNITS, load, names
 from hall_adapter.send_words import add_words
+from hall_adapter.tables import BadTable
 
 
 def devices() -> int:

@@ -14,21 +14,33 @@ The first pattern that fits decides.
 
 import os
 import re
-import tomllib
 from dataclasses import dataclass
-from typing import Any
 
-from hall_adapter.readings import MEANINGS
+from hall_adapter.readings import MEANINGS, WEIGHT
+from hall_adapter.tables import (
+    BadTable,
+    Table,
+    any_part_of,
+    bytes_of,
+    choice_of,
+    named,
+    need,
+    need_kind,
+    number_of,
+    only,
+    part_of,
+    read_table,
+    tables_of,
+    text_of,
+)
 
 FOLDER = os.path.join(os.path.dirname(os.path.dirname(os.path.realpath(__file__))), "devices")
 # Milligrams in a unit.
 UNITS = {"g": 1_000, "kg": 1_000_000, "mg": 1}
 LONGEST_LINE = 64
+# No line is longer, whatever a table says; and no device counts farther.
+MOST_LINE, MOST_COUNTER = 4_096, 10**12
 GROUPS = {"sign", "weight", "unit", "state", "counter", "article"}
-
-
-class BadTable(Exception):
-    """A table of a device, or a map, that can't be used, with the reason."""
 
 
 @dataclass(frozen=True)
@@ -70,94 +82,80 @@ class Device:
     counter: Range | None
 
 
-def need(holds: bool, said: str) -> None:
-    """Raises where a table isn't as it has to be."""
-    if not holds:
-        raise BadTable(said)
-
-
-def text_of(table: dict[str, Any], key: str, without: str | None = None) -> str:
-    """A text of a table; without a default it has to be there."""
-    value = table.get(key, without)
-    need(isinstance(value, str), f"`{key}` has to be a text")
-    return str(value)
-
-
-def number_of(table: dict[str, Any], key: str, without: int | None = None) -> int:
-    """A whole number of a table, at least 0; without a default it has to be there."""
-    value = table.get(key, without)
-    need(type(value) is int and value >= 0, f"`{key}` has to be a whole number")
-    assert isinstance(value, int)
-    return value
-
-
-def only(table: dict[str, Any], keys: set[str], where: str) -> None:
-    """Raises where a table has a key that means nothing, as a misspelled one does."""
-    unknown = sorted(set(table) - keys)
-    need(not unknown, f"{where} has the unknown key `{''.join(unknown[:1])}`")
-
-
-def frame_of(table: dict[str, Any]) -> Frame:
+def frame_of(table: Table) -> Frame:
     """The frame of a table."""
-    only(table, {"begin", "end", "check", "longest"}, "[frame]")
-    begin = text_of(table, "begin", "").encode("latin-1")
-    end = text_of(table, "end", "\n").encode("latin-1")
-    check = text_of(table, "check", "none")
+    only(table, {"begin", "end", "check", "longest"})
+    begin, end = bytes_of(table, "begin", ""), bytes_of(table, "end", "\n")
+    check = choice_of(table, "check", "none", ("none", "xor"))
     need(len(begin) <= 1 and len(end) == 1, "`begin` and `end` have one character each")
-    need(check in ("none", "xor"), f"`check` is {check}, and not none or xor")
+    need(begin != end, "`begin` and `end` are one character")
     need(check == "none" or len(begin) == 1, "a check character needs `begin`")
-    return Frame(begin, end, check == "xor", number_of(table, "longest", LONGEST_LINE))
+    longest = number_of(table, "longest", LONGEST_LINE, 1, MOST_LINE)
+    return Frame(begin, end, check == "xor", longest)
 
 
-def is_texts(pieces: Any) -> bool:
-    """Whether this is a list of texts."""
-    return isinstance(pieces, list) and all(isinstance(piece, str) for piece in pieces)
-
-
-def form_of(table: dict[str, Any]) -> Form:
-    """A form of a line."""
-    only(table, {"pattern", "means", "states"}, "[[line]]")
+def pattern_of(table: Table) -> str:
+    """The pattern of a line: a text, or a list of its pieces."""
     pieces = table.get("pattern")
-    text = "".join(pieces or []) if is_texts(pieces) else text_of(table, "pattern")
+    if not isinstance(pieces, list):
+        return text_of(table, "pattern")
+    need(all(isinstance(piece, str) for piece in pieces), "`pattern` is a text, or a list of texts")
+    return "".join(pieces)
+
+
+def states_of(table: Table) -> dict[str, str]:
+    """What the states of a line, or the values of a register, mean."""
+    for state, means in table.items():
+        need(means in MEANINGS, f"`{state}` means {means}, and none of {', '.join(MEANINGS)}")
+    return table
+
+
+def form_of(table: Table) -> Form:
+    """A form of a line."""
+    only(table, {"pattern", "means", "states"})
+    text = pattern_of(table)
     try:
         pattern = re.compile(text.encode("ascii"))
-    except (re.error, UnicodeError) as error:
+    except (re.error, UnicodeError, OverflowError) as error:
         raise BadTable(f"the pattern {text} is none: {error}") from None
     groups = set(pattern.groupindex)
     need(groups <= GROUPS, f"the pattern {text} has a group that means nothing")
-    states: dict[str, str] = table.get("states", {})
-    means = table.get("means")
-    words = list(states.values()) if means is None else [means]
-    need(all(word in MEANINGS for word in words), f"{text}: a meaning is one of {MEANINGS}")
+    states = any_part_of(table, "states", states_of) or {}
+    means = choice_of(table, "means", "", MEANINGS) if "means" in table else None
+    words = [means] if means else list(states.values())
     need(means is not None or "state" in groups, f"{text}: `means` or the group `state` is needed")
-    need("weight" not in words or "weight" in groups, f"{text}: the group `weight` is missing")
+    need(means is None or not states, f"{text}: `means` stands in place of [line.states]")
+    need(bool(words), f"{text}: no state means anything")
+    need(WEIGHT not in words or "weight" in groups, f"{text}: the group `weight` is missing")
     return Form(pattern, means, states)
 
 
-def device_of(table: dict[str, Any]) -> Device:
+def counter_of(table: Table) -> Range:
+    """What a counter begins with, and its greatest value."""
+    only(table, {"first", "last"})
+    first = number_of(table, "first", None, 0, MOST_COUNTER)
+    last = number_of(table, "last", None, 0, MOST_COUNTER)
+    need(first < last, "a counter's `first` is below its `last`")
+    return Range(first, last)
+
+
+def device_of(table: Table) -> Device:
     """The device of a table that was read."""
-    only(table, {"name", "follows", "unit", "frame", "line", "counter"}, "the table")
-    forms = tuple(form_of(form) for form in table.get("line", []))
+    need_kind(table, "follows")
+    only(table, {"name", "follows", "unit", "frame", "line", "counter"})
+    forms = tuple(named("[[line]]", lambda: form_of(form)) for form in tables_of(table, "line"))
+    weighing = [form for form in forms if WEIGHT in form_words(form)]
     need(bool(forms), "a table needs a [[line]]")
-    unit = text_of(table, "unit", "g")
-    need(unit in UNITS, f"the unit {unit} is none of {', '.join(UNITS)}")
-    counter = None
-    if "counter" in table:
-        only(table["counter"], {"first", "last"}, "[counter]")
-        counter = Range(number_of(table["counter"], "first"), number_of(table["counter"], "last"))
-        need(counter.first < counter.last, "a counter's `first` is below its `last`")
-        has_counter = all(
-            "counter" in form.pattern.groupindex for form in forms if "weight" in form_words(form)
-        )
-        need(has_counter, "with [counter] each line of a weight needs the group `counter`")
-    return Device(
-        text_of(table, "name"),
-        text_of(table, "follows"),
-        unit,
-        frame_of(table.get("frame", {})),
-        forms,
-        counter,
+    need(bool(weighing), "no [[line]] means a weight")
+    unit = choice_of(table, "unit", "g", tuple(UNITS))
+    counter = any_part_of(table, "counter", counter_of)
+    has_counter = all("counter" in form.pattern.groupindex for form in weighing)
+    need(
+        counter is None or has_counter,
+        "with [counter] each line of a weight needs the group `counter`",
     )
+    frame = part_of({"frame": {}, **table}, "frame", frame_of)
+    return Device(text_of(table, "name"), text_of(table, "follows"), unit, frame, forms, counter)
 
 
 def form_words(form: Form) -> list[str]:
@@ -170,27 +168,20 @@ def path_of(name: str) -> str:
     return name if "/" in name or name.endswith(".toml") else os.path.join(FOLDER, f"{name}.toml")
 
 
-def read_table(path: str) -> dict[str, Any]:
-    """A file of TOML."""
-    try:
-        with open(path, "rb") as source:
-            return tomllib.load(source)
-    except OSError as error:
-        raise BadTable(f"can't open {path}: {error.strerror}") from None
-    except (tomllib.TOMLDecodeError, UnicodeError) as error:
-        raise BadTable(f"{path}: {error}") from None
+def find(name: str) -> tuple[str, Table]:
+    """The path of a table or a map, and what stands there."""
+    path = path_of(name)
+    is_there = name == path or os.path.exists(path)
+    need(is_there, f"there is no table {name}: it is one of {', '.join(names())}, or a path")
+    return path, read_table(path)
 
 
 def load(name: str, unit: str | None = None) -> Device:
     """The device of a table, by its name or its path; a unit stands in place of the table's."""
-    path = path_of(name)
-    table = read_table(path)
+    path, table = find(name)
     if unit is not None:
         table["unit"] = unit
-    try:
-        return device_of(table)
-    except BadTable as bad:
-        raise BadTable(f"{path}: {bad}") from None
+    return named(path, lambda: device_of(table))
 
 
 def names() -> list[str]:

@@ -7,6 +7,8 @@ import re
 import stat
 from collections.abc import Callable
 
+from hall_adapter.readings import Note
+
 HOST = "127.0.0.1"
 ACKNOWLEDGED = re.compile(rb"ack ([0-9]{1,20})")
 OPENING = re.compile(rb"open ([0-9]{1,10})")
@@ -32,7 +34,7 @@ class HallLink(asyncio.Protocol):
         on_cut: Callable[[bool], None],
         on_acknowledged: Callable[[int], None],
         on_opened: Callable[[int], None],
-        on_bad: Callable[[str], None],
+        report: Callable[[Note], None],
     ) -> None:
         self.port = port
         self.gate_path = gate_path
@@ -40,7 +42,7 @@ class HallLink(asyncio.Protocol):
         self.on_cut = on_cut
         self.on_acknowledged = on_acknowledged
         self.on_opened = on_opened
-        self.on_bad = on_bad
+        self.report = report
         self.transport: asyncio.WriteTransport | None = None
         self.lost = asyncio.Event()
         self.held = b""
@@ -87,7 +89,9 @@ class HallLink(asyncio.Protocol):
             self.transport.write(line)
 
     async def keep(self) -> None:
-        """Keeps a connection, for as long as it runs. A port that refuses has no hall."""
+        """Keeps a connection, for as long as it runs. A port that refuses has no hall. No weight is
+        sent before the gate is there."""
+        await self.find_gate()
         loop = asyncio.get_running_loop()
         while True:
             try:
@@ -104,6 +108,8 @@ class HallLink(asyncio.Protocol):
 
     async def find_gate(self) -> None:
         """Waits until the lane's gate is there, and opens it."""
+        if not os.path.exists(self.gate_path):
+            self.report(Note("hall", f"{self.gate_path} isn't there: no hall was started yet"))
         while not os.path.exists(self.gate_path):
             await asyncio.sleep(RETRY)
         self.open_gate()
@@ -130,7 +136,7 @@ class HallLink(asyncio.Protocol):
             if found := OPENING.fullmatch(line):
                 self.on_opened(int(found[1]))
             else:
-                self.on_bad(f"{self.gate_path} has the line {line!r}")
+                self.report(Note("gate", f"{self.gate_path} has the line {line!r}"))
         if self.is_closing:
             self.close_gate()
 

@@ -28,7 +28,7 @@ from hall_adapter.cell_pipe import BadCell, CellPipe, SenderPipe, Sink
 from hall_adapter.devices import load
 from hall_adapter.lane_settings import LaneSettings, load_lane_settings
 from hall_adapter.lines import Engine
-from hall_adapter.readings import REASONS, Note, Reading, spell
+from hall_adapter.readings import REASONS, Linked, Note, Reading, spell
 from hall_adapter.serial_lines import serial_pieces
 from hall_adapter.settings import Source
 from hall_adapter.tcp_lines import tcp_pieces
@@ -49,9 +49,27 @@ def moment() -> str:
     return datetime.now(UTC).strftime("%Y-%m-%dT%H:%M:%S.%fZ")
 
 
-def pieces_of(source: Source) -> AsyncIterator[bytes | bool]:
-    """What a device says; True where it is there, and False where it broke off."""
+def pieces_of(source: Source) -> AsyncIterator[bytes | Linked]:
+    """What a device says; and where it is there, or isn't."""
     return serial_pieces(source) if source.serial else tcp_pieces(source)
+
+
+class Device:
+    """A device that comes and goes, each of which is told once."""
+
+    def __init__(self, name: str) -> None:
+        self.name = name
+        self.is_there: bool | None = None
+
+    def take(self, linked: Linked) -> None:
+        """It is there, or it isn't."""
+        before, self.is_there = self.is_there, linked.is_there
+        if before is linked.is_there:
+            return
+        if not linked.is_there:
+            tell(f"the {self.name} is away ({linked.why})")
+        elif before is False:
+            tell(f"the {self.name} is there again")
 
 
 class Scans:
@@ -123,7 +141,8 @@ class ChangingLane:
             return
         self.dropped += 1
         if self.dropped % EVERY == 1:
-            tell(f"no hall reads: {self.dropped} weights are dropped")
+            where = self.settings.cell or self.settings.sender[0]
+            tell(f"no hall reads at {where}: {self.dropped} weights are dropped")
 
     def change(self, name: bytes, who: str) -> bool:
         """A batch was said: it is kept, and then said. Whether a hall reads. Where it can't be kept
@@ -179,21 +198,25 @@ class ChangingLane:
 
     async def hear_scale(self) -> None:
         """Hears the scale."""
+        device = Device("scale")
         async for piece in pieces_of(self.settings.scale):
-            if not isinstance(piece, bool):
+            if not isinstance(piece, Linked):
                 self.take(self.engine.feed(piece))
                 continue
             # a new connection may come before the end of the old one is seen
             self.take(self.engine.cut())
-            if piece:
+            device.take(piece)
+            if piece.is_there:
                 self.settled_from = time.monotonic() + self.settings.scale.settle
 
     async def hear_scanner(self, scanner: Source) -> None:
         """Hears the scanner."""
+        device = Device("scanner")
         async for piece in pieces_of(scanner):
-            if not isinstance(piece, bool):
+            if not isinstance(piece, Linked):
                 self.take_scans(self.scans.feed(piece))
                 continue
+            device.take(piece)
             for rest in self.scans.cut():
                 tell(f"the scanner broke off in a line: {ascii(rest.decode('latin-1'))}")
 

@@ -17,13 +17,23 @@
 """
 
 from dataclasses import dataclass
-from typing import Any
 
-from hall_adapter.devices import BadTable, need, number_of, only, read_table, text_of
-from hall_adapter.settings import Source, source_of, words_of
+from hall_adapter.settings import Source, source_of
+from hall_adapter.tables import (
+    Table,
+    any_part_of,
+    named,
+    need,
+    need_kind,
+    number_of,
+    only,
+    part_of,
+    read_table,
+    text_of,
+    words_of,
+)
 
 KEYS = {"lane", "cell", "sender", "folder", "socket", "record", "device", "scale", "scanner"}
-LANES = range(1, 17)
 
 
 @dataclass(frozen=True)
@@ -41,32 +51,26 @@ class LaneSettings:
     scanner: Source | None
 
 
-def lane_settings_of(table: dict[str, Any]) -> LaneSettings:
+def lane_settings_of(table: Table) -> LaneSettings:
     """The settings of a table that was read."""
-    only(table, KEYS, "the settings")
-    for part in {"scale", "scanner"} & set(table):
-        need(isinstance(table[part], dict), f"[{part}] has to be a table")
-    need("scale" in table, "the settings need [scale]")
-    lane = number_of(table, "lane")
-    need(lane in LANES, "`lane` is 1 to 16")
+    need_kind(table, "scale")
+    only(table, KEYS)
     cell, sender = text_of(table, "cell", ""), words_of(table, "sender")
-    need(bool(cell) != bool(sender), "the settings need `cell` or `sender`")
+    need(bool(cell) != bool(sender), "`cell` or `sender` is needed, and not both")
     return LaneSettings(
-        lane,
+        number_of(table, "lane", None, 1, 16),
         cell,
         sender,
         text_of(table, "folder"),
         text_of(table, "socket", ""),
         text_of(table, "record", ""),
         text_of(table, "device"),
-        source_of(table["scale"]),
-        source_of(table["scanner"]) if "scanner" in table else None,
+        part_of(table, "scale", source_of),
+        any_part_of(table, "scanner", source_of),
     )
 
 
 def load_lane_settings(path: str) -> LaneSettings:
     """The settings at a path."""
-    try:
-        return lane_settings_of(read_table(path))
-    except BadTable as bad:
-        raise BadTable(f"{path}: {bad}") from None
+    table = read_table(path)
+    return named(path, lambda: lane_settings_of(table))

@@ -15,7 +15,7 @@ import time
 from collections.abc import Coroutine
 from typing import Any
 
-from hall_adapter.devices import BadTable, load
+from hall_adapter.devices import load
 from hall_adapter.filler import Mean, spell_advice
 from hall_adapter.gates import CommandGate, LineGate, gate_of
 from hall_adapter.hall_link import BadGate, HallLink
@@ -24,12 +24,12 @@ from hall_adapter.lines import Engine
 from hall_adapter.metrics import serve
 from hall_adapter.modbus import Order, Poller
 from hall_adapter.pulses import read_pulses
-from hall_adapter.readings import REASONS, Note, Reading
-from hall_adapter.register_maps import Registers, device_behind, load_map
+from hall_adapter.readings import REASONS, Linked, Note, Reading
+from hall_adapter.register_maps import RegisterMap, Registers, device_behind, load_map
 from hall_adapter.reject import STOPPING, Confirmation
 from hall_adapter.reports import Reports
 from hall_adapter.serial_lines import serial_pieces
-from hall_adapter.settings import Filler, Settings, load_settings
+from hall_adapter.settings import Filler, Settings, load_settings, need_fit, need_programs
 from hall_adapter.tcp_lines import tcp_pieces
 from hall_adapter.voids import Voids
 
@@ -44,7 +44,7 @@ NO_PACK = {"word", "light"}
 class Line:
     """A line, and what stands at it. Its methods run one at a time, on the thread of the loop."""
 
-    def __init__(self, settings: Settings) -> None:
+    def __init__(self, settings: Settings, made: RegisterMap | None) -> None:
         self.settings = settings
         self.reports = Reports(settings)
         self.metrics = self.reports.metrics
@@ -59,13 +59,12 @@ class Line:
             self.hall_cut,
             self.acknowledged,
             lambda row: self.act(self.lane.opened(row, time.monotonic())),
-            lambda text: self.report(Note("gate", text)),
+            self.report,
         )
         self.gate: CommandGate | LineGate | None = None
         self.poller: Poller | None = None
         self.registers: Registers | None = None
-        if settings.map:
-            made = load_map(settings.map)
+        if made:
             self.engine = Engine(device_behind(made))
             self.registers = Registers(made, self.engine)
         else:
@@ -103,15 +102,15 @@ class Line:
         if self.mean and (advice := self.mean.weigh(reading.mass)) is not None:
             self.advise(advice)
 
-    def device_linked(self, is_there: bool, why: str = "") -> None:
+    def device_linked(self, linked: Linked) -> None:
         """The device is there, or is away."""
-        self.metrics.set("hall_line_device_linked", is_there)
-        if is_there:
+        self.metrics.set("hall_line_device_linked", linked.is_there)
+        if linked.is_there:
             self.settled_from = time.monotonic() + self.settle()
-        if self.is_device_there is not is_there:
-            self.is_device_there = is_there
-            if not is_there:
-                self.report(Note("device", f"the weighing device is away {why}".strip()))
+        if self.is_device_there is not linked.is_there:
+            self.is_device_there = linked.is_there
+            if not linked.is_there:
+                self.report(Note("device", f"the weighing device is away ({linked.why})"))
 
     def settle(self) -> float:
         """For how long the lines of a new connection are of packs that are gone."""
@@ -122,11 +121,11 @@ class Line:
         source = self.settings.source
         assert source is not None
         async for piece in serial_pieces(source) if source.serial else tcp_pieces(source):
-            if isinstance(piece, bytes):
+            if not isinstance(piece, Linked):
                 self.take(self.engine.feed(piece))
-            else:
-                self.take(self.engine.cut())
-                self.device_linked(piece)
+                continue
+            self.take(self.engine.cut())
+            self.device_linked(piece)
 
     # ---- what comes over Modbus
 
@@ -147,7 +146,7 @@ class Line:
         """Takes a poll."""
         assert self.registers is not None
         if not self.is_device_there:
-            self.device_linked(True)
+            self.device_linked(Linked(True))
         self.take(self.registers.take(words))
         for _ in range(self.registers.turned_aside(words)):
             self.seen()
@@ -156,7 +155,7 @@ class Line:
         """The device doesn't answer."""
         assert self.registers is not None
         self.registers.cut()
-        self.device_linked(False, f"({why})")
+        self.device_linked(Linked(False, why))
 
     def order_failed(self, order: Order) -> None:
         """The coil couldn't be set."""
@@ -325,7 +324,7 @@ class Line:
         self.metrics.set("hall_line_stopped", 0)
         self.metrics.set("hall_line_device_linked", 0)
         self.metrics.set("hall_line_hall_linked", 0)
-        await self.link.find_gate()
+        print(f"line: {self.settings.told()}", file=sys.stderr, flush=True)
         if self.registers:
             self.poller = self.start_poller()
         try:
@@ -360,12 +359,13 @@ async def run_until_ended(line: Line) -> None:
 def run(path: str) -> int:
     """Runs the line of these settings."""
     settings = load_settings(path)
-    if settings.map and settings.reject and load_map(settings.map).reject is None:
-        if not settings.reject.pulses:
-            raise BadTable(f"{path}: [reject] needs `pulses`, or a map with [reject]")
+    need_programs(path, settings)
+    made = load_map(settings.map) if settings.map else None
+    if made:
+        need_fit(path, settings, made)
     status = 0
     try:
-        asyncio.run(run_until_ended(Line(settings)))
+        asyncio.run(run_until_ended(Line(settings, made)))
     except* (BadGate, OSError) as faults:
         status = 1
         for fault in faults.exceptions:

@@ -6,6 +6,7 @@ the device's counter. Nothing here reads or writes.
 
 import functools
 import operator
+import re
 from collections import Counter as Tally
 from decimal import Decimal
 
@@ -17,6 +18,11 @@ from hall_adapter.readings import REASONS, WEIGHT, Note, Reading, spell
 LEAST, MOST = 1_000, 30_000_000
 # How much of a line is shown.
 SHOWN = 64
+# A stream without line ends is told once in so many bytes.
+TELL_ENDLESS = 1_024
+# What a weight and a counter look like, whatever the pattern of a table takes in.
+WEIGHED = re.compile(r"[+-]?\d{1,12}(?:[.,]\d{1,12})?", re.ASCII)
+COUNTED = re.compile(r"\d{1,15}", re.ASCII)
 
 
 def left_out(reason: str, line: bytes, counter: int | None = None) -> Note:
@@ -31,7 +37,10 @@ class Framer:
     def __init__(self, frame: Frame) -> None:
         self.frame = frame
         self.held = b""
+        # whether a line's end is still to come that was told to be too long, and how many bytes of
+        # it were dropped since
         self.too_long = False
+        self.dropped_bytes = 0
 
     def feed(self, piece: bytes) -> list[bytes | Note]:
         """The lines that are whole now, and notes on what is none."""
@@ -43,21 +52,31 @@ class Framer:
 
     def cut(self) -> list[Note]:
         """The stream broke off: what is held of a line is none."""
-        rest, self.held, self.too_long = self.held.strip(b"\r\n"), b"", False
-        return [left_out("cut", rest)] if rest else []
+        rest, self.held = self.held.strip(b"\r\n"), b""
+        was_told, self.too_long = self.too_long, False
+        return [left_out("cut", rest)] if rest and not was_told else []
 
     def ended(self) -> bytes | Note | None:
         """The first line, where lines only have an end."""
         line, end, rest = self.held.partition(self.frame.end)
         if not end:
-            if len(line) > self.frame.longest:
-                self.held, self.too_long = line[: self.frame.longest], True
-            return None
+            return self.endless() if len(line) > self.frame.longest else None
         self.held = rest
-        if self.too_long or len(line) > self.frame.longest:
+        if self.too_long:
             self.too_long = False
-            return left_out("long", line)
-        return line.rstrip(b"\r")
+            return self.ended()
+        return left_out("long", line) if len(line) > self.frame.longest else line.rstrip(b"\r")
+
+    def endless(self) -> Note | None:
+        """More came than a line has, and no end yet. A stream that has none, as at another speed, is
+        told now and then."""
+        line, self.held = self.held, b""
+        was_told, self.too_long = self.too_long, True
+        self.dropped_bytes += len(line)
+        if was_told and self.dropped_bytes < TELL_ENDLESS:
+            return None
+        self.dropped_bytes = 0
+        return left_out("long", line)
 
     def framed(self) -> bytes | Note | None:
         """The first line between its beginning and its end; blanks and line ends in between are
@@ -115,16 +134,21 @@ def milligrams(text: str, unit: str) -> int | None:
 def counted(fields: dict[str, str]) -> int | None:
     """The device's number of a pack."""
     counter = fields.get("counter", "").strip()
-    return int(counter) if counter else None
+    return int(counter) if COUNTED.fullmatch(counter) else None
 
 
 def weigh(fields: dict[str, str], unit: str) -> Reading | str:
-    """The reading of a line that means a weight, or why it gives none."""
-    if fields.get("sign", "").strip() == "-":
+    """The reading of a line that means a weight, or why it gives none. A pattern may take more in
+    than digits: then the line is none."""
+    weight = fields["weight"].strip()
+    has_counter = "counter" not in fields or counted(fields) is not None
+    if not WEIGHED.fullmatch(weight) or not has_counter:
+        return "form"
+    if fields.get("sign", "").strip() == "-" or weight.startswith("-"):
         return "negative"
     if fields.get("unit", unit).strip() != unit:
         return "unit"
-    mass = milligrams(fields["weight"].strip(), unit)
+    mass = milligrams(weight, unit)
     if mass is None:
         return "fine"
     if not LEAST <= mass <= MOST:

@@ -2,8 +2,8 @@
 
 Below the line's topic: `pack` (a JSON object for each judged pack), `report` (for each report),
 `advice` (grams, to the filler), `state` (`running` or `stopped`, retained) and `online` (`1`, or
-`0` by the broker once the line is gone; retained). A broker that is away is tried again; meanwhile
-the newest messages wait, up to a bound.
+`0` by the broker once the line is gone; retained). A broker that is away is told and tried again;
+meanwhile messages wait, up to a bound, behind which they are dropped and counted.
 """
 
 import json
@@ -13,9 +13,12 @@ from typing import Any
 from hall_adapter.lanes import Pack
 from hall_adapter.readings import Note, spell
 from hall_adapter.settings import Broker
+from hall_adapter.tables import BadTable, reason_of
 
 # So many messages wait for a broker that is away.
 MOST_WAITING = 1_000
+# What paho says of a message on top of these.
+NO_PLACE = 15
 KEEP_ALIVE = 20
 RETRY = 5
 
@@ -38,16 +41,31 @@ def pack_message(pack: Pack, passed: bool) -> dict[str, Any]:
 
 def client_of(broker: Broker, name: str) -> Any:
     """A client of paho, which connects in a thread of its own."""
-    from paho.mqtt.client import Client
-
+    try:
+        from paho.mqtt.client import Client
+    except ImportError:
+        raise BadTable("[mqtt] needs Debian's package python3-paho-mqtt") from None
     client = Client(client_id=f"hall-{name}", clean_session=True)
     client.max_queued_messages_set(MOST_WAITING)
     client.reconnect_delay_set(1, RETRY)
     client.will_set(f"{broker.topic}/online", "0", qos=1, retain=True)
     if broker.user:
-        with open(broker.password_file, encoding="utf-8") as source:
-            client.username_pw_set(broker.user, source.read().strip())
+        client.username_pw_set(broker.user, password_of(broker.password_file))
     return client
+
+
+def password_of(path: str) -> str:
+    """The password in a file."""
+    try:
+        with open(path, encoding="utf-8") as source:
+            return source.read().strip()
+    except (OSError, ValueError) as error:
+        raise BadTable(f"[mqtt]: {reason_of(path, error)}") from None
+
+
+def tell(text: str) -> None:
+    """Says something on standard error."""
+    print(f"mqtt: {text}", file=sys.stderr, flush=True)
 
 
 class Messages:
@@ -56,22 +74,37 @@ class Messages:
     def __init__(self, broker: Broker, name: str) -> None:
         self.topic = broker.topic
         self.state = "running"
+        self.is_away: bool | None = None
+        self.dropped = 0
         self.client = client_of(broker, name)
         self.client.on_connect = self.connected
+        self.client.on_disconnect = self.client.on_connect_fail = self.away
         self.client.connect_async(broker.host, broker.port, KEEP_ALIVE)
         self.client.loop_start()
 
     def connected(self, _client: Any, _data: Any, _flags: Any, status: int) -> None:
         """The broker answered: it is told that the line is here, and its state."""
         if status:
-            print(f"mqtt: the broker refuses with {status}", file=sys.stderr, flush=True)
+            tell(f"the broker refuses with {status}")
             return
+        dropped, self.dropped = self.dropped, 0
+        if self.is_away:
+            tell(f"the broker is there again, and {dropped} messages were dropped")
+        self.is_away = False
         self.say("online", "1", retain=True)
         self.say("state", self.state, retain=True)
 
+    def away(self, *_: Any) -> None:
+        """The broker isn't reached, which is told once."""
+        if not self.is_away:
+            tell("the broker is away")
+        self.is_away = True
+
     def say(self, below: str, text: str, retain: bool = False) -> None:
         """Says a message, at least once."""
-        self.client.publish(f"{self.topic}/{below}", text, qos=1, retain=retain)
+        said = self.client.publish(f"{self.topic}/{below}", text, qos=1, retain=retain)
+        if said.rc == NO_PLACE:
+            self.dropped += 1
 
     def pack(self, pack: Pack, passed: bool) -> None:
         """A pack was judged."""
@@ -89,6 +122,8 @@ class Messages:
 
     def end(self) -> None:
         """The line goes, and says so."""
+        # a broker that is left isn't one that goes away
+        self.is_away = True
         self.say("online", "0", retain=True)
         self.client.disconnect()
         self.client.loop_stop()

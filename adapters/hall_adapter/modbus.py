@@ -13,15 +13,28 @@ from collections.abc import Callable
 from typing import Any
 
 from hall_adapter.register_maps import Link, RegisterMap
-from hall_adapter.settings import address_of
+from hall_adapter.tables import BadTable, address_of
 
 # Seconds until a link is tried again, and for how long an answer is waited for.
 RETRY = 0.5
 PATIENCE = 1.0
 WORD = 65_536
+PACKAGES = "Debian's packages python3-pymodbus, python3-serial and python3-serial-asyncio"
 
 # What the thread is told to do: to let a pack out, or to write advice.
 Order = tuple[str, int]
+
+
+class LastError(logging.Handler):
+    """Keeps the last error that pymodbus tells its log, and nobody else."""
+
+    def __init__(self) -> None:
+        super().__init__(logging.ERROR)
+        self.text = ""
+
+    def emit(self, record: logging.LogRecord) -> None:
+        """Takes an error."""
+        self.text = record.getMessage()
 
 
 class LinkFault(Exception):
@@ -30,9 +43,10 @@ class LinkFault(Exception):
 
 def client_of(link: Link) -> Any:
     """A client of pymodbus."""
-    from pymodbus.client import ModbusSerialClient, ModbusTcpClient  # type: ignore[import]
-
-    logging.getLogger("pymodbus").setLevel(logging.CRITICAL)
+    try:
+        from pymodbus.client import ModbusSerialClient, ModbusTcpClient  # type: ignore[import]
+    except ImportError:
+        raise BadTable(f"a map needs {PACKAGES}") from None
     ways = {"timeout": PATIENCE, "retries": 0}
     if link.tcp:
         host, port = address_of(link.tcp)
@@ -59,6 +73,7 @@ class Poller(threading.Thread):
         self.on_cut = on_cut
         self.on_failed = on_failed
         self.client = client or client_of(made.link)
+        self.errors = LastError()
         self.orders: queue.SimpleQueue[Order] = queue.SimpleQueue()
         self.shut_at: float | None = None
         self.ending = threading.Event()
@@ -69,10 +84,13 @@ class Poller(threading.Thread):
 
     def run(self) -> None:
         """Polls until it is told to end."""
+        log = logging.getLogger("pymodbus")
+        log.propagate = False
+        log.handlers = [self.errors]
         while not self.ending.is_set():
             try:
                 if not self.client.connect():
-                    raise LinkFault("no connection")
+                    raise LinkFault(self.errors.text or "no connection")
                 self.set_coil(False)
                 self.work()
             except Exception as fault:  # pymodbus raises what it likes: struct.error among others

@@ -27,11 +27,22 @@ async def read_one(words: tuple[str, ...], on_pulse: Callable[[], None]) -> str:
 async def read_pulses(
     words: tuple[str, ...], on_pulse: Callable[[], None], report: Callable[[Note], None]
 ) -> None:
-    """Runs the command, and begins it again where it ends: that is reported."""
+    """Runs the command, and begins it again where it ends: that is reported, once for as long as it
+    ends in the same way and says nothing."""
+    pulses, told = 0, ""
+
+    def count() -> None:
+        nonlocal pulses
+        pulses += 1
+        on_pulse()
+
     while True:
+        pulses = 0
         try:
-            how = await read_one(words, on_pulse)
+            how = await read_one(words, count)
         except OSError as error:
             how = str(error.strerror)
-        report(Note("pulses", f"{words[0]}: {how}"))
+        if pulses or how != told:
+            report(Note("pulses", f"{words[0]}: {how}"))
+        told = how
         await asyncio.sleep(RETRY)

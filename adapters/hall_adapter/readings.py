@@ -45,6 +45,14 @@ class Note:
     row: int | None = None
 
 
+@dataclass(frozen=True)
+class Linked:
+    """A device is reached now, or isn't, and why not."""
+
+    is_there: bool
+    why: str = ""
+
+
 def spell(mass: int) -> str:
     """A mass in grams, as a lane of the hall reads it."""
     return f"{mass // 1000}.{mass % 1000:03}"

@@ -14,31 +14,32 @@
               with a sign; may be absent
 
 All registers but the filler's are of one table and at most 100 apart, so that one request reads
-them at one moment.
-Nothing here reads or writes.
+them at one moment; no two parts have a register in common. Nothing here reads or writes.
 """
 
 import math
 import struct
 from dataclasses import dataclass
 from decimal import Decimal
-from typing import Any
-
-from hall_adapter.devices import (
-    UNITS,
-    BadTable,
-    Device,
-    Frame,
-    Range,
+from hall_adapter.devices import UNITS, Device, Frame, Range, find, states_of
+from hall_adapter.lines import LEAST, MOST, Engine, left_out
+from hall_adapter.readings import WEIGHT, Note, Reading
+from hall_adapter.tables import (
+    Table,
+    address_of,
+    any_part_of,
+    baud_of,
+    choice_of,
+    named,
     need,
+    need_kind,
     number_of,
     only,
-    path_of,
-    read_table,
+    part_of,
+    real_of,
+    seconds_of,
     text_of,
 )
-from hall_adapter.lines import LEAST, MOST, Engine, left_out
-from hall_adapter.readings import MEANINGS, WEIGHT, Note, Reading
 
 # For each type: how many words, and how struct spells it.
 TYPES = {"int16": (1, "h"), "uint16": (1, "H"), "int32": (2, "i"), "uint32": (2, "I")}
@@ -46,6 +47,8 @@ TYPES["float32"] = (2, "f")
 # One request reads no more registers than this.
 MOST_WORDS = 100
 WORD = 65_536
+# The greatest address of a device, and the greatest scale.
+MOST_UNIT, MOST_SCALE = 255, 1_000_000.0
 # What a line of a recording says where the link broke off.
 CUT = "cut"
 
@@ -100,100 +103,133 @@ class RegisterMap:
 
     def registers(self) -> list[int]:
         """Each register that is read."""
-        words = TYPES[self.weight.kind][0]
-        weight = [self.weight.register, self.weight.register + words - 1]
+        first, words = self.weight.register, TYPES[self.weight.kind][0]
         return [
-            *weight,
+            *range(first, first + words),
             self.strobe,
             *(one for one in (self.state, self.reject) if one is not None),
         ]
 
 
-def seconds_of(table: dict[str, Any], key: str, without: float) -> float:
-    """A number of seconds above 0."""
-    value = table.get(key, without)
-    need(isinstance(value, int | float) and 0 < value <= 60, f"`{key}` has to be seconds, up to 60")
-    return float(value)
-
-
-def link_of(table: dict[str, Any]) -> Link:
+def link_of(table: Table) -> Link:
     """How a device is reached."""
-    keys = {"tcp", "serial", "baud", "parity", "stop", "unit", "table", "period"}
-    only(table, keys, "[modbus]")
+    only(table, {"tcp", "serial", "baud", "parity", "stop", "unit", "table", "period"})
     tcp, serial = text_of(table, "tcp", ""), text_of(table, "serial", "")
-    need(bool(tcp) != bool(serial), "[modbus] needs `tcp` or `serial`")
-    kind = text_of(table, "table", "input")
-    parity = text_of(table, "parity", "E")
-    need(kind in ("input", "holding"), "`table` is input or holding")
-    need(parity in ("N", "E", "O"), "`parity` is N, E or O")
+    need(bool(tcp) != bool(serial), "`tcp` or `serial` is needed, and not both")
+    if tcp:
+        address_of(tcp)
     return Link(
         tcp,
         serial,
-        number_of(table, "baud", 19_200),
-        parity,
-        number_of(table, "stop", 1),
-        number_of(table, "unit", 1),
-        kind,
+        baud_of(table, 19_200),
+        choice_of(table, "parity", "E", ("N", "E", "O")),
+        number_of(table, "stop", 1, 1, 2),
+        number_of(table, "unit", 1, 0, MOST_UNIT),
+        choice_of(table, "table", "input", ("input", "holding")),
         seconds_of(table, "period", 0.005),
     )
 
 
-def weight_of(table: dict[str, Any]) -> Weight:
+def place_of(table: Table, key: str = "register") -> int:
+    """The number of a register or a coil."""
+    return number_of(table, key, None, 0, WORD - 1)
+
+
+def weight_of(table: Table) -> Weight:
     """Where the weight stands."""
-    only(table, {"register", "type", "order", "unit", "scale"}, "[weight]")
-    kind, order = text_of(table, "type", "int32"), text_of(table, "order", "big")
-    unit, scale = text_of(table, "unit", "g"), table.get("scale", 1)
-    need(kind in TYPES, f"the type {kind} is none of {', '.join(TYPES)}")
-    need(order in ("big", "little"), "`order` is big or little")
-    need(unit in UNITS, f"the unit {unit} is none of {', '.join(UNITS)}")
-    need(isinstance(scale, int | float) and scale > 0, "`scale` has to be a number above 0")
-    return Weight(number_of(table, "register"), kind, order, unit, Decimal(str(scale)))
-
-
-def register_in(table: dict[str, Any], key: str, part: str) -> int | None:
-    """The register or coil of a part that may be absent."""
-    return number_of(table[part], key) if part in table else None
-
-
-def map_of(table: dict[str, Any]) -> RegisterMap:
-    """The map of a table that was read."""
-    only(table, {"modbus", "weight", "strobe", "state", "gate", "reject", "filler"}, "the map")
-    for part in ("modbus", "weight", "strobe"):
-        need(isinstance(table.get(part), dict), f"a map needs [{part}]")
-    strobe, state, gate = table["strobe"], table.get("state", {}), table.get("gate", {})
-    only(strobe, {"register", "first", "last"}, "[strobe]")
-    only(state, {"register", "values"}, "[state]")
-    only(gate, {"coil", "pulse"}, "[gate]")
-    values = state.get("values", {})
-    need(all(word in MEANINGS for word in values.values()), f"a meaning is one of {MEANINGS}")
-    made = RegisterMap(
-        link_of(table["modbus"]),
-        weight_of(table["weight"]),
-        number_of(strobe, "register"),
-        Range(number_of(strobe, "first", 0), number_of(strobe, "last", WORD - 1)),
-        register_in(table, "register", "state"),
-        values,
-        register_in(table, "coil", "gate"),
-        seconds_of(gate, "pulse", 0.05),
-        register_in(table, "register", "reject"),
-        register_in(table, "register", "filler"),
+    only(table, {"register", "type", "order", "unit", "scale"})
+    scale = real_of(table, "scale", 1, "a number above 0", MOST_SCALE)
+    need(scale > 0, "`scale` has to be a number above 0")
+    return Weight(
+        place_of(table),
+        choice_of(table, "type", "int32", tuple(TYPES)),
+        choice_of(table, "order", "big", ("big", "little")),
+        choice_of(table, "unit", "g", tuple(UNITS)),
+        Decimal(str(table.get("scale", 1))),
     )
-    need(made.limits.first < made.limits.last < WORD, "`first` is below `last`, of 16 bits")
-    need(made.count() <= MOST_WORDS, f"the registers are over {MOST_WORDS} apart")
+
+
+def strobe_of(table: Table) -> tuple[int, Range]:
+    """The register that counts packs, and what it counts from and to."""
+    only(table, {"register", "first", "last"})
+    first = number_of(table, "first", 0, 0, WORD - 1)
+    last = number_of(table, "last", WORD - 1, 0, WORD - 1)
+    need(first < last, "`first` is below `last`")
+    return place_of(table), Range(first, last)
+
+
+def values_of(table: Table) -> dict[str, str]:
+    """What the values of the register of a state mean."""
+    for value in table:
+        fits = value.isascii() and value.isdecimal() and str(int(value)) == value
+        need(fits and int(value) < WORD, f"`{value}` is no value of a register")
+    values = states_of(table)
+    need(WEIGHT in values.values(), "no value means a weight")
+    return values
+
+
+def state_of(table: Table) -> tuple[int, dict[str, str]]:
+    """The register of a state, and what its values mean."""
+    only(table, {"register", "values"})
+    return place_of(table), part_of(table, "values", values_of)
+
+
+def coil_of(table: Table) -> tuple[int, float]:
+    """The coil of the gate, and how long it is set."""
+    only(table, {"coil", "pulse"})
+    return place_of(table, "coil"), seconds_of(table, "pulse", 0.05)
+
+
+def register_of(table: Table) -> int:
+    """The register of a part that has nothing else."""
+    only(table, {"register"})
+    return place_of(table)
+
+
+def map_of(table: Table) -> RegisterMap:
+    """The map of a table that was read."""
+    need_kind(table, "modbus")
+    only(table, {"modbus", "weight", "strobe", "state", "gate", "reject", "filler"})
+    strobe, limits = part_of(table, "strobe", strobe_of)
+    state, values = any_part_of(table, "state", state_of) or (None, {})
+    gate, pulse = any_part_of(table, "gate", coil_of) or (None, 0.05)
+    made = RegisterMap(
+        part_of(table, "modbus", link_of),
+        part_of(table, "weight", weight_of),
+        strobe,
+        limits,
+        state,
+        values,
+        gate,
+        pulse,
+        any_part_of(table, "reject", register_of),
+        any_part_of(table, "filler", register_of),
+    )
+    need_apart(made)
     return made
 
 
-def is_map(table: dict[str, Any]) -> bool:
+def need_apart(made: RegisterMap) -> None:
+    """The registers of a map can be read at once, and none has two meanings."""
+    need(made.count() <= MOST_WORDS, f"the registers are over {MOST_WORDS} apart")
+    taken: set[int] = set()
+    for register in made.registers():
+        need(register < WORD, f"register {register} is behind the last one")
+        need(register not in taken, f"register {register} has two meanings")
+        taken.add(register)
+    is_spoiled = made.link.table == "holding" and made.advice in taken
+    need(not is_spoiled, f"register {made.advice} is read, and [filler] would write it")
+
+
+def is_map(table: Table) -> bool:
     """Whether a table is a map for Modbus, and no table of a device's lines."""
     return "modbus" in table
 
 
 def load_map(name: str) -> RegisterMap:
     """The map at a path."""
-    try:
-        return map_of(read_table(path_of(name)))
-    except BadTable as bad:
-        raise BadTable(f"{name}: {bad}") from None
+    path, table = find(name)
+    return named(path, lambda: map_of(table))
 
 
 def device_behind(made: RegisterMap) -> Device:

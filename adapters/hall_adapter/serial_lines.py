@@ -8,6 +8,7 @@ import os
 import termios
 from collections.abc import AsyncIterator
 
+from hall_adapter.readings import Linked
 from hall_adapter.settings import Source
 
 # Seconds until a line that isn't there is tried again.
@@ -66,19 +67,21 @@ async def read_on(line: int) -> AsyncIterator[bytes]:
         yield piece
 
 
-async def serial_pieces(source: Source) -> AsyncIterator[bytes | bool]:
-    """What comes; True where the line is open, and False where it broke off."""
+async def serial_pieces(source: Source) -> AsyncIterator[bytes | Linked]:
+    """What comes; and where the line is opened, can't be, or broke off."""
     while True:
         try:
             line = open_line(source)
-        except (OSError, termios.error):
+        except (OSError, termios.error) as error:
+            # of both the second word is what the system says
+            yield Linked(False, f"{source.serial}: {error.args[1]}")
             await asyncio.sleep(RETRY)
             continue
         try:
-            yield True
+            yield Linked(True)
             async for piece in read_on(line):
                 yield piece
         finally:
             os.close(line)
-        yield False
+        yield Linked(False, f"{source.serial} is at its end")
         await asyncio.sleep(RETRY)

@@ -16,15 +16,15 @@
     gate = "/run/hall-main/gate-1.txt"
     within = 0.5                     # seconds from a weight until its gate can't open any more
 
-    [gate]                           # what lets a pack out; with `map` its coil, and this is absent
+    [gate]                           # what lets a pack out; absent where `map` has the coil
     command = ["gpioset", "-m", "time", "-u", "50000", "gpiochip0", "17=1"]
                                      #   or device = "/dev/ttyUSB1" and text = "O\\r\\n"
 
     [reject]                         # may be absent
     earliest = 0.2                   # seconds from a weight until it is behind the reject
     latest = 0.4
-    pulses = ["gpiomon", ..]         # a command that says a line for each pack there; with `map`
-                                     #   its register, and this is absent
+    pulses = ["gpiomon", ..]         # a command that says a line for each pack there; absent where
+                                     #   `map` has the register
     stops = true                     # whether a fault stops the gate
 
     [filler]                         # may be absent
@@ -47,14 +47,37 @@
     every = 60                       # seconds from one call of a kind to the next
 """
 
-import termios
+import shutil
 from dataclasses import dataclass
-from typing import Any
 
-from hall_adapter.devices import BadTable, need, number_of, only, read_table, text_of
-from hall_adapter.register_maps import seconds_of
+from hall_adapter.register_maps import RegisterMap
+from hall_adapter.tables import (
+    MOST_PORT,
+    Table,
+    address_of,
+    any_part_of,
+    baud_of,
+    bytes_of,
+    choice_of,
+    flag_of,
+    name_of,
+    named,
+    need,
+    need_kind,
+    number_of,
+    only,
+    part_of,
+    read_table,
+    real_of,
+    seconds_of,
+    text_of,
+    url_of,
+    words_of,
+)
 
 PARTS = {"source", "hall", "gate", "reject", "filler", "desk", "metrics", "mqtt", "alarm"}
+# The most that settings may say: grams, packs of a mean, and seconds between two alarms.
+MOST_GRAMS, MOST_PACKS, MOST_EVERY = 30_000.0, 10_000, 1e6
 
 
 @dataclass(frozen=True)
@@ -148,153 +171,184 @@ class Settings:
     broker: Broker | None
     alarm: Alarm | None
 
-
-def address_of(text: str) -> tuple[str, int]:
-    """A host and a port, of `HOST:PORT`."""
-    host, _, port = text.rpartition(":")
-    need(bool(host) and port.isdecimal() and 0 < int(port) < 65_536, f"{text} is no HOST:PORT")
-    return host, int(port)
-
-
-def words_of(table: dict[str, Any], key: str) -> tuple[str, ...]:
-    """The words of a command; none where it is absent."""
-    words = table.get(key, [])
-    is_words = isinstance(words, list) and all(isinstance(word, str) for word in words)
-    need(is_words and (key not in table or bool(words)), f"`{key}` has to be a list of words")
-    return tuple(words)
+    def told(self) -> str:
+        """Which line this is, as it is said where it begins."""
+        where = self.map
+        if source := self.source:
+            place = f"listens at {source.listen}" if source.listen else source.serial or source.tcp
+            where = f"{self.device}, {place}"
+        return f"{self.name}: {where}; lane {self.lane} at port {self.port}"
 
 
-def milligrams_of(table: dict[str, Any], key: str) -> int:
+def milligrams_of(table: Table, key: str) -> int:
     """A number of grams above 0 or 0, in milligrams."""
-    value = table.get(key)
-    need(isinstance(value, int | float) and 0 <= value <= 30_000, f"`{key}` has to be grams")
-    assert isinstance(value, int | float)
-    return round(value * 1000)
+    return round(real_of(table, key, None, "grams", MOST_GRAMS) * 1000)
 
 
-def source_of(table: dict[str, Any]) -> Source:
+def source_of(table: Table) -> Source:
     """Where a device's lines come from."""
-    only(table, {"serial", "baud", "bits", "parity", "stop", "tcp", "listen", "settle"}, "[source]")
+    only(table, {"serial", "baud", "bits", "parity", "stop", "tcp", "listen", "settle"})
     ways = [text_of(table, way, "") for way in ("serial", "tcp", "listen")]
-    need(sum(map(bool, ways)) == 1, "[source] needs one of `serial`, `tcp` and `listen`")
+    need(sum(map(bool, ways)) == 1, "one of `serial`, `tcp` and `listen` is needed")
     for address in filter(None, ways[1:]):
         address_of(address)
-    bits, parity = number_of(table, "bits", 8), text_of(table, "parity", "N")
-    need(bits in (7, 8) and parity in ("N", "E", "O"), "`bits` is 7 or 8, `parity` N, E or O")
-    stop = number_of(table, "stop", 1)
-    need(stop in (1, 2), "`stop` is 1 or 2")
-    settle = table.get("settle", 0.0 if ways[0] else 0.3)
-    need(isinstance(settle, int | float) and 0 <= settle <= 60, "`settle` has to be seconds")
-    baud = number_of(table, "baud", 9_600)
-    need(hasattr(termios, f"B{baud}"), f"`baud` is {baud}, and no speed of a serial line")
-    return Source(ways[0], baud, bits, parity, stop, ways[1], ways[2], float(settle))
+    return Source(
+        ways[0],
+        baud_of(table, 9_600),
+        number_of(table, "bits", 8, 7, 8),
+        choice_of(table, "parity", "N", ("N", "E", "O")),
+        number_of(table, "stop", 1, 1, 2),
+        ways[1],
+        ways[2],
+        real_of(table, "settle", 0.0 if ways[0] else 0.3, "seconds", 60.0),
+    )
 
 
-def gate_of(table: dict[str, Any]) -> Gate:
+def hall_of(table: Table) -> tuple[int, str, float]:
+    """The lane's port, its gate, and how long a pack takes to it."""
+    only(table, {"port", "gate", "within"})
+    port = number_of(table, "port", None, 1, MOST_PORT)
+    return port, text_of(table, "gate"), seconds_of(table, "within", 0.5)
+
+
+def gate_of(table: Table) -> Gate:
     """What lets a pack out."""
-    only(table, {"command", "device", "text"}, "[gate]")
+    only(table, {"command", "device", "text"})
     gate = Gate(
         words_of(table, "command"),
         text_of(table, "device", ""),
-        text_of(table, "text", "O\r\n").encode("latin-1"),
+        bytes_of(table, "text", "O\r\n"),
     )
-    need(bool(gate.command) != bool(gate.device), "[gate] needs `command` or `device`")
+    need(bool(gate.command) != bool(gate.device), "`command` or `device` is needed, and not both")
     return gate
 
 
-def reject_of(table: dict[str, Any], has_map: bool) -> Reject:
+def reject_of(table: Table) -> Reject:
     """What says that a pack was turned aside."""
-    only(table, {"earliest", "latest", "pulses", "stops"}, "[reject]")
-    earliest, latest = seconds_of(table, "earliest", 0), seconds_of(table, "latest", 0)
+    only(table, {"earliest", "latest", "pulses", "stops"})
+    earliest, latest = seconds_of(table, "earliest"), seconds_of(table, "latest")
     need(earliest < latest, "`earliest` is before `latest`")
-    pulses, stops = words_of(table, "pulses"), table.get("stops", True)
-    need(bool(pulses) or has_map, "[reject] needs `pulses`, or a map with [reject]")
-    need(isinstance(stops, bool), "`stops` is true or false")
-    return Reject(earliest, latest, pulses, stops)
+    return Reject(earliest, latest, words_of(table, "pulses"), flag_of(table, "stops", True))
 
 
-def filler_of(table: dict[str, Any]) -> Filler:
+def filler_of(table: Table) -> Filler:
     """Who is told the mean."""
-    only(table, {"packs", "every", "target", "band", "file"}, "[filler]")
-    packs = number_of(table, "packs")
-    every = number_of(table, "every", packs)
-    need(0 < packs <= 10_000 and 0 < every, "`packs` is 1 to 10 000, `every` at least 1")
-    target, band = milligrams_of(table, "target"), milligrams_of(table, "band")
-    return Filler(packs, every, target, band, text_of(table, "file", ""))
+    only(table, {"packs", "every", "target", "band", "file"})
+    packs = number_of(table, "packs", None, 1, MOST_PACKS)
+    return Filler(
+        packs,
+        number_of(table, "every", packs, 1),
+        milligrams_of(table, "target"),
+        milligrams_of(table, "band"),
+        text_of(table, "file", ""),
+    )
 
 
-def desk_of(table: dict[str, Any]) -> Desk:
+def desk_of(table: Table) -> Desk:
     """A desk that acts for the line."""
-    only(table, {"url", "number"}, "[desk]")
-    number = number_of(table, "number")
-    need(101 <= number <= 164, "a desk's `number` is 101 to 164")
-    return Desk(text_of(table, "url"), number)
+    only(table, {"url", "number"})
+    return Desk(url_of(table, "url"), number_of(table, "number", None, 101, 164))
 
 
-def broker_of(table: dict[str, Any], topic: str) -> Broker:
+def broker_of(table: Table, topic: str) -> Broker:
     """A broker of MQTT."""
-    only(table, {"host", "port", "topic", "user", "password_file"}, "[mqtt]")
-    return Broker(
-        text_of(table, "host"),
-        number_of(table, "port", 1_883),
+    only(table, {"host", "port", "topic", "user", "password_file"})
+    made = Broker(
+        name_of(table, "host"),
+        number_of(table, "port", 1_883, 1, MOST_PORT),
         text_of(table, "topic", topic),
         text_of(table, "user", ""),
         text_of(table, "password_file", ""),
     )
+    fits = bool(made.topic) and made.topic.isprintable() and not {"+", "#"} & set(made.topic)
+    need(fits, f"`topic` is {made.topic!r}, and has no + or #; the line's name is in it without it")
+    need(bool(made.user) == bool(made.password_file), "`user` and `password_file` belong together")
+    return made
 
 
-def alarm_of(table: dict[str, Any]) -> Alarm:
+def alarm_of(table: Table) -> Alarm:
     """A command that is called for alarms."""
-    only(table, {"command", "every"}, "[alarm]")
+    only(table, {"command", "every"})
     command = words_of(table, "command")
-    need(bool(command), "[alarm] needs `command`")
-    every = table.get("every", 60)
-    need(isinstance(every, int | float) and every >= 0, "`every` has to be seconds")
-    return Alarm(command, float(every))
+    need(bool(command), "`command` is missing")
+    return Alarm(command, real_of(table, "every", 60, "seconds", MOST_EVERY))
 
 
-def metrics_of(table: dict[str, Any]) -> tuple[str, int]:
+def metrics_of(table: Table) -> tuple[str, int]:
     """Where the metrics are to be had."""
-    only(table, {"listen"}, "[metrics]")
+    only(table, {"listen"})
     return address_of(text_of(table, "listen"))
 
 
-def settings_of(table: dict[str, Any]) -> Settings:
-    """The settings of a table that was read."""
-    only(table, {"name", "lane", "device", "map"} | PARTS, "the settings")
-    for part in PARTS & set(table):
-        need(isinstance(table[part], dict), f"[{part}] has to be a table")
-    name, device, registers = text_of(table, "name"), text_of(table, "device", ""), ""
-    if "map" in table:
-        registers = text_of(table, "map")
-    need(bool(device) != bool(registers), "the settings need `device` or `map`")
+def settings_of(table: Table) -> Settings:
+    """The settings of a table that was read. What belongs to a map is looked at by `need_fit`."""
+    need_kind(table, "hall")
+    only(table, {"name", "lane", "device", "map"} | PARTS)
+    name, device, registers = (
+        name_of(table, "name"),
+        text_of(table, "device", ""),
+        text_of(table, "map", ""),
+    )
+    need(bool(device) != bool(registers), "`device` or `map` is needed, and not both")
     need(bool(device) == ("source" in table), "[source] belongs to `device`")
-    need(bool(device) == ("gate" in table), "[gate] belongs to `device`; a map has its coil")
-    lane, hall = number_of(table, "lane"), table.get("hall", {})
-    need(1 <= lane <= 16, "`lane` is 1 to 16")
-    only(hall, {"port", "gate", "within"}, "[hall]")
+    need(not device or "gate" in table, "[gate] is missing")
+    port, gate_path, within = part_of(table, "hall", hall_of)
+    reject = any_part_of(table, "reject", reject_of)
+    is_said = reject is None or bool(reject.pulses) or bool(registers)
+    need(is_said, "[reject] needs `pulses`, or a map with [reject]")
     return Settings(
         name,
-        lane,
+        number_of(table, "lane", None, 1, 16),
         device,
         registers,
-        source_of(table["source"]) if device else None,
-        number_of(hall, "port"),
-        text_of(hall, "gate"),
-        seconds_of(hall, "within", 0.5),
-        gate_of(table["gate"]) if device else None,
-        reject_of(table["reject"], bool(registers)) if "reject" in table else None,
-        filler_of(table["filler"]) if "filler" in table else None,
-        desk_of(table["desk"]) if "desk" in table else None,
-        metrics_of(table["metrics"]) if "metrics" in table else None,
-        broker_of(table["mqtt"], f"hall/{name}") if "mqtt" in table else None,
-        alarm_of(table["alarm"]) if "alarm" in table else None,
+        any_part_of(table, "source", source_of),
+        port,
+        gate_path,
+        within,
+        any_part_of(table, "gate", gate_of),
+        reject,
+        any_part_of(table, "filler", filler_of),
+        any_part_of(table, "desk", desk_of),
+        any_part_of(table, "metrics", metrics_of),
+        any_part_of(table, "mqtt", lambda part: broker_of(part, f"hall/{name}")),
+        any_part_of(table, "alarm", alarm_of),
     )
+
+
+def need_fit(path: str, settings: Settings, made: RegisterMap) -> None:
+    """Each thing that stands at a line is either the map's or the settings'."""
+    named(path, lambda: need_one_of_each(settings, made))
+
+
+def need_one_of_each(settings: Settings, made: RegisterMap) -> None:
+    """Gate and reject are each the map's, or the settings'."""
+    has_coil, has_counter, reject = made.gate is not None, made.reject is not None, settings.reject
+    need(
+        has_coil or settings.gate is not None,
+        "nothing lets a pack out: no [gate], in the map or here",
+    )
+    need(not has_coil or settings.gate is None, "[gate] is the map's, and stands here too")
+    if reject is None:
+        need(not has_counter, "[reject] is missing: the map has a register that counts rejects")
+    elif reject.pulses:
+        need(not has_counter, "[reject] has `pulses`, and the map a register for it too")
+    else:
+        need(has_counter, "[reject] needs `pulses`, or a map with [reject]")
+
+
+def need_programs(path: str, settings: Settings) -> None:
+    """The programs that the settings name are here."""
+    gate, reject, alarm = settings.gate, settings.reject, settings.alarm
+    for part, words in (
+        ("gate", gate.command if gate else ()),
+        ("reject", reject.pulses if reject else ()),
+        ("alarm", alarm.command if alarm else ()),
+    ):
+        is_here = not words or shutil.which(words[0]) is not None
+        need(is_here, f"{path}: [{part}]: {''.join(words[:1])} is no program here")
 
 
 def load_settings(path: str) -> Settings:
     """The settings at a path."""
-    try:
-        return settings_of(read_table(path))
-    except BadTable as bad:
-        raise BadTable(f"{path}: {bad}") from None
+    table = read_table(path)
+    return named(path, lambda: settings_of(table))

@@ -7,7 +7,9 @@ import asyncio
 import socket
 from collections.abc import AsyncIterator
 
-from hall_adapter.settings import Source, address_of
+from hall_adapter.readings import Linked
+from hall_adapter.settings import Source
+from hall_adapter.tables import address_of
 
 # Seconds until a connection is tried again.
 RETRY = 0.5
@@ -36,30 +38,30 @@ async def read_on(reader: asyncio.StreamReader) -> AsyncIterator[bytes]:
         yield piece
 
 
-async def connected(source: Source) -> AsyncIterator[bytes | bool]:
-    """What a device says to which this connects; True where a connection begins, False where
-    it broke off."""
+async def connected(source: Source) -> AsyncIterator[bytes | Linked]:
+    """What a device says to which this connects; and where a connection is made, can't be, or broke
+    off."""
     host, port = address_of(source.tcp)
     while True:
         try:
             reader, writer = await asyncio.open_connection(host, port)
-        except OSError:
+        except OSError as error:
+            yield Linked(False, f"{source.tcp}: {error.strerror or error}")
             await asyncio.sleep(RETRY)
             continue
         keep_alive(writer.get_extra_info("socket"))
-        yield True
+        yield Linked(True)
         async for piece in read_on(reader):
             yield piece
         writer.close()
-        yield False
+        yield Linked(False, f"{source.tcp} left the connection")
         await asyncio.sleep(RETRY)
 
 
-async def accepted(source: Source) -> AsyncIterator[bytes | bool]:
-    """What a device says that connects to this; True where a connection begins, False where
-    it broke off."""
+async def accepted(source: Source) -> AsyncIterator[bytes | Linked]:
+    """What a device says that connects to this; and where a connection begins, or broke off."""
     host, port = address_of(source.listen)
-    said: asyncio.Queue[bytes | bool] = asyncio.Queue()
+    said: asyncio.Queue[bytes | Linked] = asyncio.Queue()
     newest: list[asyncio.StreamWriter] = []
 
     async def take(reader: asyncio.StreamReader, writer: asyncio.StreamWriter) -> None:
@@ -67,19 +69,19 @@ async def accepted(source: Source) -> AsyncIterator[bytes | bool]:
             newest.pop().close()
         newest.append(writer)
         keep_alive(writer.get_extra_info("socket"))
-        said.put_nowait(True)
+        said.put_nowait(Linked(True))
         async for piece in read_on(reader):
             if newest and newest[0] is writer:
                 said.put_nowait(piece)
         writer.close()
         if newest and newest[0] is writer:
-            said.put_nowait(False)
+            said.put_nowait(Linked(False, "it left the connection"))
 
     async with await asyncio.start_server(take, host, port):
         while True:
             yield await said.get()
 
 
-def tcp_pieces(source: Source) -> AsyncIterator[bytes | bool]:
+def tcp_pieces(source: Source) -> AsyncIterator[bytes | Linked]:
     """What a device says over TCP."""
     return connected(source) if source.tcp else accepted(source)

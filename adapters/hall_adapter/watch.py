@@ -14,12 +14,11 @@ from collections.abc import Callable
 from functools import partial
 
 from hall_adapter.book_rows import BookRows
-from hall_adapter.devices import BadTable, read_table
 from hall_adapter.followers import ArchiveFollower, tell_copy, tell_list
 from hall_adapter.hall_texts import Sheet, batch_of_lane, connections_of, sheet_of, summary_of
 from hall_adapter.metrics import Metrics, merged, serve
 from hall_adapter.office import Office
-from hall_adapter.watch_settings import Watched, watched_of
+from hall_adapter.watch_settings import Watched, load_watched
 
 SOCKETS = "/proc/net/tcp"
 PILES = ("passed", "rejected", "sampled", "voided")
@@ -101,6 +100,10 @@ class Watch:
                     settings.status, stdin=subprocess.DEVNULL, capture_output=True, timeout=PATIENCE
                 )
                 self.status = ran.stdout.decode("utf-8", "replace")
+                if self.status:
+                    self.told.pop("status", None)
+                else:
+                    self.tell("status", f"{settings.status[0]} says nothing{why_of(ran)}")
             except (OSError, subprocess.TimeoutExpired) as fault:
                 self.status = ""
                 self.tell("status", str(fault))
@@ -166,6 +169,12 @@ class Watch:
                 metrics.set("hall_door_connections", count, port=str(port))
 
 
+def why_of(ran: "subprocess.CompletedProcess[bytes]") -> str:
+    """The status and the last word of a command that ended."""
+    said = ran.stderr.decode("utf-8", "replace").strip().splitlines()
+    return f", and ended with status {ran.returncode}: {' '.join(said[-1:])}".rstrip(": ")
+
+
 def tell_sheet(metrics: Metrics, batch: str, sheet: Sheet) -> None:
     """How a batch stands, and what its packers' part would be now."""
     metrics.set("hall_batch_packs", sheet.population, batch=batch)
@@ -180,10 +189,7 @@ def tell_sheet(metrics: Metrics, batch: str, sheet: Sheet) -> None:
 
 def run(path: str) -> int:
     """Hands the numbers out until it is ended."""
-    try:
-        watch = Watch(watched_of(read_table(path)))
-    except BadTable as bad:
-        raise BadTable(f"{path}: {bad}") from None
+    watch = Watch(load_watched(path))
     try:
         asyncio.run(serve(watch.settings.listen, watch.text))
     except KeyboardInterrupt:

@@ -23,10 +23,26 @@
 """
 
 from dataclasses import dataclass
-from typing import Any
 
-from hall_adapter.devices import need, number_of, only, text_of
-from hall_adapter.settings import address_of, words_of
+from hall_adapter.tables import (
+    MOST_PORT,
+    Table,
+    address_of,
+    any_part_of,
+    name_of,
+    named,
+    need,
+    need_kind,
+    number_of,
+    numbers_of,
+    only,
+    read_table,
+    tables_of,
+    text_of,
+    texts_of,
+    url_of,
+    words_of,
+)
 
 KEYS = {"book", "listen", "every", "url", "file", "limit", "lanes", "doors", "disks", "list"}
 KEYS |= {"status", "status_every", "copy", "archive"}
@@ -53,38 +69,45 @@ class Watched:
     login: str
 
 
-def watched_of(table: dict[str, Any]) -> Watched:
+def copy_of(table: Table) -> tuple[str, str]:
+    """A copy's name, and the file with what is said of it."""
+    only(table, {"name", "said"})
+    return name_of(table, "name"), text_of(table, "said")
+
+
+def archive_of(table: Table) -> tuple[str, str]:
+    """The archive's URL, and the file with the login."""
+    only(table, {"url", "login"})
+    return url_of(table, "url"), text_of(table, "login", "")
+
+
+def watched_of(table: Table) -> Watched:
     """The settings of a table that was read."""
-    only(table, KEYS, "the settings")
-    doors, disks, copies = table.get("doors", []), table.get("disks", []), table.get("copy", [])
-    need(
-        isinstance(doors, list) and all(type(port) is int for port in doors),
-        "`doors` has to be a list of ports",
-    )
-    need(
-        isinstance(disks, list) and all(isinstance(path, str) for path in disks),
-        "`disks` has to be a list of paths",
-    )
-    need(
-        isinstance(copies, list) and all(isinstance(copy, dict) for copy in copies),
-        "[[copy]] has to be a table, with two brackets",
-    )
-    archive = table.get("archive", {})
-    only(archive, {"url", "login"}, "[archive]")
+    need_kind(table, "book")
+    only(table, KEYS)
+    copies = [named("[[copy]]", lambda: copy_of(copy)) for copy in tables_of(table, "copy")]
+    need(len(dict(copies)) == len(copies), "two [[copy]] have one name")
+    archive, login = any_part_of(table, "archive", archive_of) or ("", "")
     return Watched(
-        text_of(table, "book"),
+        name_of(table, "book"),
         address_of(text_of(table, "listen")),
         number_of(table, "every", 5),
-        text_of(table, "url", ""),
+        url_of(table, "url", ""),
         text_of(table, "file", ""),
         number_of(table, "limit", 1_000_000),
-        number_of(table, "lanes", 0),
-        doors,
-        disks,
+        number_of(table, "lanes", 0, 0, 16),
+        numbers_of(table, "doors", 1, MOST_PORT),
+        texts_of(table, "disks"),
         text_of(table, "list", ""),
-        {text_of(copy, "name"): text_of(copy, "said") for copy in copies},
+        dict(copies),
         words_of(table, "status"),
         number_of(table, "status_every", 60),
-        text_of(archive, "url") if "archive" in table else "",
-        text_of(archive, "login", ""),
+        archive,
+        login,
     )
+
+
+def load_watched(path: str) -> Watched:
+    """The settings at a path."""
+    table = read_table(path)
+    return named(path, lambda: watched_of(table))

@@ -3,7 +3,8 @@
 import unittest
 from typing import Any
 
-from hall_adapter.devices import BadTable, device_of, load, names
+from hall_adapter.devices import device_of, load, names
+from hall_adapter.tables import BadTable
 
 GOOD: dict[str, Any] = {
     "name": "n",
@@ -29,11 +30,18 @@ class Devices(unittest.TestCase):
             ("[[line]]", {"line": []}),
             ("is none", {"line": [{"pattern": "(", "means": "weight"}]}),
             ("group that means nothing", {"line": [{"pattern": "(?P<w>)", "means": "word"}]}),
-            ("a meaning is one of", {"line": [{"pattern": "x", "means": "wieght"}]}),
+            ("`means` is wieght, and none of", {"line": [{"pattern": "x", "means": "wieght"}]}),
             ("`means` or the group", {"line": [{"pattern": "x"}]}),
             ("group `weight` is missing", {"line": [{"pattern": "x", "means": "weight"}]}),
-            ("the unit lb", {"unit": "lb"}),
+            ("`unit` is lb", {"unit": "lb"}),
+            ("no [[line]] means a weight", {"line": [{"pattern": "x", "means": "word"}]}),
+            ("[[line]] has to be a table", {"line": 7}),
+            ("`1` means god", {"line": [{"pattern": "(?P<state>1)", "states": {"1": "god"}}]}),
             ("one character each", {"frame": {"end": "\r\n"}}),
+            ("`begin` and `end` are one", {"frame": {"begin": "\n"}}),
+            ("no byte", {"frame": {"begin": "€"}}),
+            ("[frame] has to be a table", {"frame": "\n"}),
+            ("`longest` has to be a whole number from 1", {"frame": {"longest": 0}}),
             ("needs `begin`", {"frame": {"check": "xor"}}),
             ("`check` is sum", {"frame": {"check": "sum"}}),
             ("below its `last`", {"counter": {"first": 9, "last": 9}}),
@@ -48,6 +56,9 @@ class Devices(unittest.TestCase):
     def test_a_table_that_isnt_there(self) -> None:
         with self.assertRaises(BadTable) as caught:
             load("nowhere")
+        self.assertIn("no table nowhere: it is one of and, bizerba", str(caught.exception))
+        with self.assertRaises(BadTable) as caught:
+            load("./nowhere")
         self.assertIn("No such file", str(caught.exception))
 
 

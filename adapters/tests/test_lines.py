@@ -2,7 +2,7 @@
 
 import unittest
 
-from hall_adapter.devices import load, names
+from hall_adapter.devices import device_of, load, names
 from hall_adapter.lines import Engine
 from hall_adapter.readings import Note, Reading
 
@@ -145,6 +145,43 @@ class Lines(unittest.TestCase):
                 told = engine.feed(changed + line(2, 252_400))
                 masses = [one.mass for one in told if isinstance(one, Reading)]
                 self.assertTrue(set(masses) <= {251_300, 252_400}, f"{changed!r} gave {masses}")
+
+    def test_a_pattern_that_takes_anything_in(self) -> None:
+        # as somebody may change a table; what isn't digits there is no weight, and no number
+        table = {"name": "n", "follows": "f", "counter": {"first": 0, "last": 999}}
+        form = {"pattern": "(?P<counter>.{3}) (?P<weight>.+)", "means": "weight"}
+        for text, said in (
+            (b"001 251.3", 251_300),
+            (b"002 +251,3", 251_300),
+            (b"003 -251.3", "negative"),
+            (b" 4  251.3 ", 251_300),
+            (b"005 25 .3", "form"),
+            (b"006 1e3", "form"),
+            (b"007 NaN", "form"),
+            (b"008 Infinity", "form"),
+            (b"009 1e999999999", "form"),
+            (b"010 \xb2\xb3", "form"),
+            (b"0x1 251.3", "form"),
+            (b"1_1 251.3", "form"),
+            (b"012 1_000", "form"),
+            (b"013 0.0000000000001", "form"),
+        ):
+            [one] = Engine(device_of({**table, "line": [form]})).feed(text + b"\r\n")
+            with self.subTest(text=text):
+                self.assertEqual(one.mass if isinstance(one, Reading) else one.kind, said)
+
+    def test_a_stream_without_ends_is_told(self) -> None:
+        # as at another speed: a pack's line is 30 bytes of something
+        for device in ("ishida", "bizerba", "minebea", "sics"):
+            engine = Engine(load(device))
+            told = [one for _ in range(100) for one in engine.feed(b"\xf0\x86" * 15)]
+            with self.subTest(device=device):
+                self.assertEqual({one.kind for one in told if isinstance(one, Note)}, {"long"})
+                self.assertIn(len(told), (3, 4))
+                # its end comes at last, and a good line behind it
+                self.assertEqual(engine.feed(b"\xf0\r\n"), [])
+                [one] = engine.feed(LINES[device][0][0] if device in LINES else b"S S 251.30 g\n")
+                self.assertIsInstance(one, Reading)
 
     def test_memory_is_bounded(self) -> None:
         for device in names():

@@ -3,9 +3,9 @@
 import unittest
 from typing import Any
 
-from hall_adapter.devices import BadTable
 from hall_adapter.readings import Reading
 from hall_adapter.register_maps import map_of, recorded
+from hall_adapter.tables import BadTable
 
 MAP: dict[str, Any] = {
     "modbus": {"tcp": "127.0.0.1:502"},
@@ -14,6 +14,9 @@ MAP: dict[str, Any] = {
     "state": {"register": 13, "values": {"0": "weight", "1": "motion"}},
     "reject": {"register": 14},
 }
+# Registers that lie near the last one.
+NEAR: dict[str, Any] = {"state": {"register": 65_531, "values": {"0": "weight"}}}
+NEAR["reject"] = {"register": 65_532}
 
 
 def told_of(text: str, **changed: object) -> list[str]:
@@ -65,16 +68,37 @@ class Maps(unittest.TestCase):
         self.assertEqual(told_of("0000 09d1\nxyz\n"), ["form 1", "form 1"])
 
     def test_faulty_maps(self) -> None:
-        faulty: list[dict[str, Any]] = [
-            {"modbus": {"tcp": "a:1", "serial": "/dev/x"}},
-            {"weight": {"register": 10, "type": "int64"}},
-            {"strobe": {"register": 500}},
-            {"strobe": {"register": 12, "lats": 9}},
-            {"state": {"register": 13, "values": {"0": "good"}}},
+        faulty: list[tuple[str, dict[str, Any]]] = [
+            ("[modbus]: `tcp` or `serial`", {"modbus": {"tcp": "a:1", "serial": "/dev/x"}}),
+            ("[modbus]: a is no HOST:PORT", {"modbus": {"tcp": "a"}}),
+            ("[modbus]: `unit` has to be", {"modbus": {"tcp": "a:1", "unit": 256}}),
+            ("[modbus]: `baud` is 9601", {"modbus": {"serial": "a", "baud": 9601}}),
+            ("[modbus] has to be a table", {"modbus": "a:1"}),
+            ("[weight]: `type` is int64", {"weight": {"register": 10, "type": "int64"}}),
+            ("[weight]: `register` is missing", {"weight": {}}),
+            ("[weight]: `scale` has to be", {"weight": {"register": 10, "scale": float("inf")}}),
+            ("[weight]: `scale` has to be", {"weight": {"register": 10, "scale": 0}}),
+            ("over 100 apart", {"strobe": {"register": 500}}),
+            ("[strobe]: unknown key `lats`", {"strobe": {"register": 12, "lats": 9}}),
+            ("register 11 has two meanings", {"strobe": {"register": 11}}),
+            ("`0` means good", {"state": {"register": 13, "values": {"0": "good"}}}),
+            ("`00` is no value", {"state": {"register": 13, "values": {"00": "weight"}}}),
+            ("no value means a weight", {"state": {"register": 13, "values": {"0": "motion"}}}),
+            ("[values] is missing", {"state": {"register": 13}}),
+            ("[gate]: `coil` has to be", {"gate": {"coil": 65_536}}),
+            ("[gate]: `pulse` has to be", {"gate": {"coil": 0, "pulse": 0}}),
+            (
+                "[filler] would write it",
+                {"modbus": {"tcp": "a:1", "table": "holding"}, "filler": {"register": 10}},
+            ),
         ]
-        for changed in faulty:
-            with self.subTest(changed=changed), self.assertRaises(BadTable):
+        for said, changed in faulty:
+            with self.subTest(said=said), self.assertRaises(BadTable) as caught:
                 map_of({**MAP, **changed})
+            self.assertIn(said, str(caught.exception))
+        with self.assertRaises(BadTable) as caught:
+            map_of({**MAP, "weight": {"register": 65_535}, "strobe": {"register": 65_530}} | NEAR)
+        self.assertIn("register 65536 is behind the last one", str(caught.exception))
 
 
 if __name__ == "__main__":
