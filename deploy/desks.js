@@ -111,6 +111,8 @@ async function pass(r) {
     r.headersOut['Cache-Control'] = 'no-store';
     r.headersOut['Content-Type'] = reply.headersOut['Content-Type'];
     if (reply.headersOut['Book-Row']) r.headersOut['Book-Row'] = reply.headersOut['Book-Row'];
+    // so that a page which was open over a change of the book sees it
+    r.headersOut['Book-Name'] = r.variables.book;
     r.return(reply.status, reply.responseText);
 }
 

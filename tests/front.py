@@ -230,6 +230,7 @@ def check_desks(front):
         expect(reply, 200, f"desk {desk}")
         row = str(json.loads(reply.body)["row"])
         need(reply.fields["book-row"] == row, "Book-Row is handed on")
+        need(reply.fields["book-name"] == BOOK, "an answer names its book")
 
 
 def check_bodies(front):

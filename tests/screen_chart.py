@@ -1,6 +1,6 @@
 """How soon a batch of 10 000 packs is on the screen, from the click to the figure, through the
-front and the doors of a running hall; and that a chart which grows asks for what is new alone. A part of
-tests/screen.py."""
+front and the doors of a running hall; and that a chart which grows asks for what is new alone. A
+part of tests/screen.py."""
 
 import os
 import re

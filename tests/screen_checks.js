@@ -52,27 +52,62 @@ window.hallChecks = (() => {
 
   const cut = () => texts().filter(isCut).map(({ one }) => `cut: ${named(one)}`);
 
+  // Texts that are wider than their own part, so that they may lie over what is beside it.
+  const spilled = () => texts().filter(({ one, boxes }) => {
+    const { left, right } = one.getBoundingClientRect();
+    return boxes.some((box) => box.left < left - 1.5 || box.right > right + 1.5);
+  }).map(({ one }) => `spilled: ${named(one)}`);
+
+  // What is seen of a text's box within all that scrolls or clips round it; nothing where it lies
+  // outside, or below a dialog that keeps the rest of the page from being used.
+  function seenPart(one, { left, right, top, bottom }) {
+    const dialog = document.querySelector("dialog:modal");
+    if (dialog && !dialog.contains(one)) return null;
+    const part = { left, right, top, bottom };
+    for (let up = one; up && up !== document.body; up = up.parentElement) {
+      const { overflowX, overflowY } = getComputedStyle(up);
+      if (overflowX === "visible" && overflowY === "visible") continue;
+      const room = up.getBoundingClientRect();
+      Object.assign(part, { left: Math.max(part.left, room.left), top: Math.max(part.top, room.top),
+        right: Math.min(part.right, room.right), bottom: Math.min(part.bottom, room.bottom) });
+    }
+    return part.right - part.left > 2 && part.bottom - part.top > 2 ? part : null;
+  }
+
   // Boxes without the upper and lower quarter of their lines, which may touch.
-  const core = ({ left, right, top, bottom, height }) =>
-    ({ left: left + 1, right: right - 1, top: top + height / 4, bottom: bottom - height / 4 });
+  const core = ({ left, right, top, bottom }) => ({ left: left + 1, right: right - 1,
+    top: top + (bottom - top) / 4, bottom: bottom - (bottom - top) / 4 });
   const meet = (a, b) => a.left < b.right && b.left < a.right
     && a.top < b.bottom && b.top < a.bottom;
+  const seenTexts = () => texts().flatMap(({ one, boxes }) => boxes
+    .map((box) => ({ one, box: seenPart(one, box) })).filter(({ box }) => box));
 
   function overlapping() {
-    const all = texts().flatMap(({ one, boxes }) => boxes.map((box) => ({ one, box: core(box) })));
-    const faults = [];
-    all.forEach((a, at) => {
-      for (const b of all.slice(at + 1)) {
-        if (a.one === b.one || !meet(a.box, b.box)) continue;
-        const [x, y] = [(a.box.left + a.box.right) / 2, (a.box.top + a.box.bottom) / 2];
-        // what a dialog or a scrolled box hides isn't seen
-        const top = document.elementFromPoint(x, y);
-        if (top && !top.contains(a.one) && !a.one.contains(top)) continue;
-        faults.push(`overlapping: ${named(a.one)} and ${named(b.one)}`);
-      }
-    });
-    return faults;
+    const all = seenTexts().map(({ one, box }) => ({ one, box: core(box) }));
+    return all.flatMap((a, at) => all.slice(at + 1)
+      .filter((b) => a.one !== b.one && meet(a.box, b.box))
+      .map((b) => `overlapping: ${named(a.one)} and ${named(b.one)}`));
   }
+
+  // Texts below a part that isn't theirs and has a ground of its own.
+  const isGround = (one) => rgba(getComputedStyle(one).backgroundColor)[3] > 0.5;
+  function covered() {
+    return seenTexts().filter(({ one, box: { left, right, top, bottom } }) => {
+      let over = document.elementFromPoint((left + right) / 2, (top + bottom) / 2);
+      for (; over && !over.contains(one) && !one.contains(over); over = over.parentElement) {
+        if (over instanceof HTMLElement && isGround(over)) return true;
+      }
+      return false;
+    }).map(({ one }) => `covered: ${named(one)}`);
+  }
+
+  // Letters of less than 11 px; on a sheet for A4 of less than 7 points. Those of a picture have
+  // the size at which it is drawn: their box is an eighth higher.
+  const sizeOf = ({ one, boxes }) => (one instanceof SVGElement ? boxes[0].height / 1.15
+    : parseFloat(getComputedStyle(one).fontSize));
+  const leastFor = ({ one }) => (one.closest(".paper") ? 9.3 : 11);
+  const tiny = () => texts().filter((text) => sizeOf(text) < leastFor(text))
+    .map((text) => `letters of ${sizeOf(text).toFixed(1)} px: ${named(text.one)}`);
 
   // ---- contrast, as WCAG 2 reckons it
 
@@ -133,9 +168,10 @@ window.hallChecks = (() => {
   }
   const all = (selector) => [...document.querySelectorAll(selector)];
   const seen = (selector) => all(selector).filter(shown);
+  const GROUPS = ["search", "radiogroup", "group", "region"];
   const RULES = {
-    "no name": () => seen("a, button, input, select, textarea, summary, [role=img], [role=search],"
-      + " nav, dialog, [role=radiogroup], [role=group]").filter((one) => !nameOf(one)),
+    "no name": () => seen("a, button, input, select, textarea, summary, [role=img], nav, dialog"
+      + GROUPS.map((role) => `, [role=${role}]`).join("")).filter((one) => !nameOf(one)),
     "an id twice": () => all("[id]")
       .filter((one) => all(`[id="${CSS.escape(one.id)}"]`).length > 1),
     "names nothing": () => all("[aria-labelledby], [aria-describedby], label[for], [list]")
@@ -150,9 +186,10 @@ window.hallChecks = (() => {
     "no item": () => seen("ol, ul").flatMap((one) => [...one.children])
       .filter((one) => one.tagName !== "LI"),
     "not in a list of terms": () => seen("dt, dd").filter((one) => !one.closest("dl")),
-    "a dead link": () => all("a[href]").filter((one) => !/^#\w+/.test(one.getAttribute("href"))),
-    "a role that isn't known": () => all("[role]").filter((one) => !["alert", "status", "img",
-      "search", "radiogroup", "group"].includes(one.getAttribute("role"))),
+    "a dead link": () => all("a[href]")
+      .filter((one) => !/^(#|archive\/)\w+/.test(one.getAttribute("href"))),
+    "a role that isn't known": () => all("[role]")
+      .filter((one) => !["alert", "status", "img", ...GROUPS].includes(one.getAttribute("role"))),
     "a small place to press": () =>
       seen("button, .button, select, input:not([type=radio],[type=range])")
         .filter((one) => one.getBoundingClientRect().height < 24),
@@ -169,6 +206,6 @@ window.hallChecks = (() => {
     return faults;
   }
 
-  return { all: () => [...cut(), ...overlapping(), ...pale(), ...unnamed()], cut, overlapping, pale,
-    unnamed };
+  const finds = [cut, spilled, overlapping, covered, tiny, pale, unnamed];
+  return { all: () => finds.flatMap((find) => find()) };
 })();

@@ -1,7 +1,7 @@
-"""Evidence on the screen: a part of tests/screen.py. A hall at work, the archive that follows it, and
-a browser: a tare and a check of a scale are entered, the act is offered, the newest stands on a
-batch's sheet, with the fingerprint at its closing, and what is overdue, or differs from the book, is
-an alarm of the board. What the archive adds to pages is looked at in each size, scheme and
+"""Evidence on the screen: a part of tests/screen.py. A hall at work, the archive that follows it,
+and a browser: a tare and a check of a scale are entered, the act is offered, the newest stands on a
+batch's sheet, with the fingerprint at its closing, and what is overdue, or differs from the book,
+is an alarm of the board. What the archive adds to pages is looked at in each size, scheme and
 language."""
 
 # mypy: allow-untyped-calls, allow-untyped-defs
@@ -184,7 +184,7 @@ def overdue(place):
 
 def without(place):
     """Where no archive answers the sheet says nothing of evidence, and the page that it isn't
-    there."""
+    there, until it is there again."""
     place.room.pages.kill()
     place.anna.open("sheet/R1")
     place.anna.reload()
@@ -193,7 +193,9 @@ def without(place):
     need(not place.anna.text(".sh-evidence"), "a sheet has evidence of no archive")
     place.anna.open("evidence")
     place.anna.reload()
-    place.anna.wait_text("#evidence .notice", "")
+    place.anna.wait_text("#evidence .notice", "needs the archive")
+    place.room.pages.begin()
+    place.anna.find("#e-desk")
 
 
 def run_evidence(program, folder, pictures):

@@ -32,12 +32,14 @@ def check_average(room, wall):
     room.fill("\n".join(opening(["rice250"]) + ["open EDGE rice250"]
                         + weighing(1, "EDGE", packs)) + "\n")
     go_on = threading.Event()
-    room.weigh(["EDGE"], [slowly([260_000, 260_001, 260_000], 1, go_on)])
-    # 2 packs: one of 250.000 and one of 250.001 g; then the sum is exact
+    # a pack of 250.000 g, and then one of 250.001 g by which the sum is exact
+    room.weigh(["EDGE"], [slowly([260_000, 260_001], 1, go_on)])
     wall.open("board")
-    wait_board(wall, "+0.00 g" if wall.run("return document.documentElement.lang") == "xx" else "g")
-    wait_board(wall, "would pass")
+    wait_board(wall, "EDGE: average 0.001 g short. Next 100 packs: 250.001 g each",
+               "#board .alarms")
+    wait_board(wall, "would fail: average", "#board .b-says.fail")
     go_on.set()
+    wait_board(wall, "would pass", "#board .b-says.ok")
     print("screen: at 1 mg the forecast turns with the sum of the nets", flush=True)
 
 
@@ -56,6 +58,24 @@ def check_short(room, wall):
     print(f"screen: {said.strip()}", flush=True)
 
 
+def check_other_book(room, wall):
+    """A book of more rows in the place of the one that the board follows, as a browser finds it
+    that slept meanwhile: nothing of the former one stays."""
+    for name, packs in (("BEFORE", 40), ("SINCE", 130)):
+        room.fill("\n".join(opening(["rice250"]) + [f"open {name} rice250"]
+                            + weighing(1, name, good(room.draw, packs))) + "\n")
+        room.weigh([name], [silent()])
+        wall.wait_text("#board .strips", name, 90)
+    wait_until(lambda: "BEFORE" not in wall.text("#board .strips"), "the former book is gone", 30)
+    last = len(room.rows()) - 2
+    shown = wall.driver.execute_async_script("""
+        const tell = arguments[0];
+        import("./packs.js").then(({ packs }) => tell([...packs.values()]
+            .filter((pack) => pack?.batch !== "SINCE").length + " " + Math.max(...packs.keys())))""")
+    need(shown == f"0 {last}", f"packs of others, and the newest: {shown}, for {last}")
+    print("screen: another book of more rows is seen by the rows that were read last", flush=True)
+
+
 def check_rejects(room, wall):
     """The last signal is large; that packs before it were rejected, and why, stays to be seen."""
     packs = good(room.draw, 120)
@@ -65,7 +85,6 @@ def check_rejects(room, wall):
                         + weighing(1, "REJECTS", packs)) + "\n")
     room.weigh(["REJECTS"], [silent()])
     wall.open("board")
-    wall.reload()
     wait_board(wall, "2 of the last 60 rejected, the newest: inadequate", "#board .w-lane .unseen")
     need(wall.text("#board .w-out") == "2inadequate", f"it shows {wall.text('#board .w-out')}")
     shown = wall.run("return document.querySelector('#board .w-out > span').checkVisibility()")
@@ -243,6 +262,7 @@ def run_signs(program, folder, pictures):
     check_short(room, wall)
     check_average(room, wall)
     check_held(room, wall)
+    check_other_book(room, wall)
     check_rejects(room, wall)
     check_lanes(room, wall)
     check_settings(room, wall)

@@ -51,7 +51,7 @@ def check_stays(browser):
 
 def loaded(browser):
     """What the page has loaded so far: bytes, bytes as the front sent them, and what it asked
-    elsewhere. Answers of the office and of the archive, and files of the book, are no part of it."""
+    elsewhere. Answers of the office and of the archive, and files of the book, are no part."""
     return browser.run("""
         const all = performance.getEntriesByType("resource")
             .concat(performance.getEntriesByType("navigation"));
@@ -106,7 +106,8 @@ def check_size(browser):
               flush=True)
 
 
-# A part that has the key's focus, by its id where it has one: a slider's words change as packs come.
+# A part that has the key's focus, by its id where it has one: a slider's words change as packs
+# come.
 NAMED = "const named = (one) => one.id || one.outerHTML.slice(0, 90);"
 
 

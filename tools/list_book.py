@@ -125,8 +125,8 @@ ACTS_AND_QUESTIONS = (
             Place("docs/FORMATS.md", WORD_ROW, chapter("Acts"), True, besides=("act",)),
             Place("www/forms.js", r"^  (?P<name>\w+): \{ fields", whole=True),
             Place("www/acts.js", r'"(?P<name>\w+)"', r"ACT_NAMES = \[(.*?)\];", True),
-            Place("www/desk_en.js", r'^  "act\.(?P<name>\w+)": ', whole=True),
-            Place("www/desk_de.js", r'^  "act\.(?P<name>\w+)": ', whole=True),
+            Place("www/acts_en.js", r'^  "act\.(?P<name>\w+)": ', whole=True),
+            Place("www/acts_de.js", r'^  "act\.(?P<name>\w+)": ', whole=True),
             Place(
                 "tests/office.sh",
                 r"""^ *act (?:\$\(\(.*\)\)|\S+) ['"\\]+(?P<name>\w+)""",

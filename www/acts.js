@@ -2,7 +2,7 @@
 
 import * as grams from "./grams.js";
 import { addNames, names } from "./names.js";
-import { say, word } from "./words.js";
+import { CODE, addWords, say } from "./words.js";
 import { give, onChange, outcome, why } from "./requests.js";
 import { pending, told } from "./kept.js";
 import { lacks, myDesk, onDesk } from "./mydesk.js";
@@ -10,6 +10,8 @@ import { make, put } from "./page.js";
 import { verdictTag } from "./parts.js";
 import { fixed, grams as spell } from "./numbers.js";
 import { outcomeWords } from "./outcomes.js";
+
+addWords((await import(`./acts_${CODE}.js`)).default);
 
 // The acts of a desk, as the menu has them.
 export const ACT_NAMES = ["day", "product", "product_ml", "tare", "open", "open_at", "end", "draw",

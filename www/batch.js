@@ -4,11 +4,11 @@
 import { MOST_PACKS, limitsOf } from "./rules.js";
 import { RULES, groupSize } from "./subgroups.js";
 import { CODE, addWords, say, word } from "./words.js";
-import { count, fixed, grams, mass, percent, quantity } from "./numbers.js";
+import { count, fixed, grams, mass, nominalOf, percent } from "./numbers.js";
 import { causesOf, isCounted, meanAndS } from "./control.js";
 import { groupsOf, subgroupPanels } from "./groupchart.js";
-import { icon, loadStyles, make, meter, notice, put, shape, whenSized } from "./page.js";
-import { facts, signalTag, table, verdictTag } from "./parts.js";
+import { icon, loadStyles, make, meter, put, shape, whenSized } from "./page.js";
+import { facts, notice, signalTag, table, verdictTag } from "./parts.js";
 import { priceOf, settings } from "./settings.js";
 import { BatchPage } from "./loader.js";
 import { drawChart } from "./chart.js";
@@ -41,7 +41,7 @@ function headFacts(sheet, packs) {
   return facts([
     [say("counted"), count(sheet.population),
       say("weighed", { count: count(sheet.piles.readings) })],
-    [say("meanS"), figure(mean, (value) => `${grams(value, 2)} · ${grams(s, 2)} g`),
+    [say("meanS"), figure(mean, (value) => `${grams(value, 2)} · ${grams(s, 2)}\u00a0g`),
       `T1 ${grams(limits.t1, 1)} · T2 ${grams(limits.t2, 1)} g`],
     [say("light"), say("ofAllowed", { used: count(sheet.nonstandard),
       allowed: count(forecast.allowed) }), say("share", { most: percent(.025, 1),
@@ -60,7 +60,7 @@ function titleOf(sheet) {
     make("span", {}, more ? `${told} (${more})` : told));
   return make("div", { className: "title" }, make("div", {}, make("h2", {}, sheet.batch),
     make("p", { className: "quiet" },
-      `${sheet.product} · ${quantity(sheet.quantity)} ${sheet.unit} · ${word(sheet.state)}`)),
+      `${sheet.product} · ${nominalOf(sheet)} · ${word(sheet.state)}`)),
   sheet.verdict ? verdictTag(sheet.verdict) : says, make("p", { className: "right" },
     make("a", { className: "button second", href: `#sheet/${sheet.batch}` }, icon("print"),
       say("printSheet"))));
@@ -269,7 +269,7 @@ function draw(place, sheet, packs) {
 const page = new BatchPage("batch", draw);
 
 export async function build(section) {
-  await loadStyles("parts.css", "tables.css", "figures.css", "batch.css");
+  await loadStyles("parts.css", "tables.css", "figures.css", "charts.css", "batch.css");
   page.build(section);
 }
 

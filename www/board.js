@@ -6,7 +6,7 @@ import { CODE, addWords, say, word } from "./words.js";
 import { AlarmBar, alarmsOf, isNear, isSoonFull, loudFirst } from "./alarms.js";
 import { Hall } from "./lanes.js";
 import { MOST_PACKS, MOST_ROWS } from "./rules.js";
-import { count, duration, grams, quantity } from "./numbers.js";
+import { count, duration, grams, nominalOf } from "./numbers.js";
 import { icon, loadStyles, make, meter, put, shape } from "./page.js";
 import { keepText, readText } from "./store.js";
 import { lanes as askPlan, list as askList } from "./office.js";
@@ -24,8 +24,9 @@ addWords((await import(`./board_${CODE}.js`)).default);
 // How often the files beside the pages are asked for anew, in milliseconds.
 const FILES_EVERY = 5_000;
 
-// How often what is new is asked, in milliseconds: a change of a lane is seen within a second. Where
-// so many rows come a second that nobody reads them it is more seldom, since each look costs as much.
+// How often what is new is asked, in milliseconds: a change of a lane is seen within a second.
+// Where so many rows come a second that nobody reads them it is more seldom, since each look costs
+// as much.
 const OFTEN = 600;
 const SELDOM = 3_000;
 const MANY = 100;
@@ -90,7 +91,7 @@ async function askHolding(shown) {
         && pack.signal === "pass");
     for (const { number } of found) {
       const pack = await packAt(number, true);
-      if (["passed", "sampled"].includes(pack.pile)) hall.holding.set(batch, number);
+      if (["passed", "sampled"].includes(pack?.pile)) hall.holding.set(batch, number);
     }
   }
 }
@@ -114,7 +115,7 @@ function makeStrip(sheet) {
     country: makeMeter(settings.country.name), packs: makeMeter("", "clock"),
     above: makeMeter(say("aboveEach")), lanes: make("div", { className: "b-lanes" }) };
   part.says.append(part.sign, make("div", {}, part.word, part.more));
-  const goods = `${sheet.product} · ${quantity(sheet.quantity)} ${sheet.unit}`;
+  const goods = `${sheet.product} · ${nominalOf(sheet)}`;
   const meters = [part.allowance, ...settings.country.share ? [part.country] : [], part.packs,
     part.above].map(({ row }) => row);
   const block = make("div", { className: "b-batch" },
@@ -275,6 +276,7 @@ function legend() {
 export async function build(section) {
   await loadStyles("figures.css", "forecast.css", "board.css");
   const spoken = make("p", { className: "unseen", role: "alert" });
+  section.dataset.form = "none";
   place = { section, strips: make("div", { className: "strips" }), left: make("span"),
     rows: make("span", { className: "left" }), note: make("span", { className: "note" }),
     alarms: make("ol", { className: "alarms" }) };

@@ -29,7 +29,7 @@ function scales(limits, wide, high) {
     isNamed, right,
     up: (net) => round(edge + (top - held(net)) / (top - low) * (high - 2 * edge)),
     across: (at) => round(edge + (at + .5) * (right - edge * 2) / MOST),
-    size: Math.max(2.5, Math.min(9, high / 26)),
+    size: Math.max(2.2, Math.min(9, high / 26, wide / 45)),
     letters,
   };
 }

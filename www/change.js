@@ -1,6 +1,6 @@
 // Another batch for a lane that changes it: a dialog with the open batches that have no lane, a
-// field for a name, and scans that a scanner types at the lane's page. The lane's adapter says it to
-// the hall; what became of it is shown as soon as the book or the hall says so.
+// field for a name, and scans that a scanner types at the lane's page. The lane's adapter says it
+// to the hall; what became of it is shown as soon as the book or the hall says so.
 
 import { Missing, allLanes, lane as askLane, lanes as askPlan, list, reach, sheet as askSheet }
   from "./office.js";

@@ -1,5 +1,5 @@
-// Draws the chart of a batch: nets one by one with their mean of 30, and the histogram, by one scale
-// across. Shapes and words say what colours say; packs of a kind are one path, so that ten
+// Draws the chart of a batch: nets one by one with their mean of 30, and the histogram, by one
+// scale across. Shapes and words say what colours say; packs of a kind are one path, so that ten
 // thousand of them are drawn at once.
 
 import { addWords, say } from "./words.js";
@@ -29,12 +29,13 @@ const SHAPES = {
   out: (x, y) => `M${x} ${y - 6}l6 10h-12z`,
 };
 
-export const mark = (kind, points) => (points.length === 0 ? [] : [shape("path", { class: `m-${kind}`,
-  d: points.map(([x, y]) => SHAPES[kind](x, y)).join("") })]);
+export const mark = (kind, points) => (points.length === 0 ? [] : [shape("path",
+  { class: `m-${kind}`, d: points.map(([x, y]) => SHAPES[kind](x, y)).join("") })]);
 export const text = (x, y, words, kind = "", anchor = "start") =>
   shape("text", { x, y, class: kind, "text-anchor": anchor }, words);
-export const dots = (points, width, opacity = 1) => shape("path", { class: "m-pass", "stroke-width": width,
-  "stroke-opacity": opacity, d: points.map(([x, y]) => `M${x} ${y}h0`).join("") });
+export const dots = (points, width, opacity = 1) => shape("path", { class: "m-pass",
+  "stroke-width": width, "stroke-opacity": opacity,
+  d: points.map(([x, y]) => `M${x} ${y}h0`).join("") });
 export const across = (kind, left, right, y) =>
   shape("path", { class: kind, d: `M${left} ${y}H${right}` });
 

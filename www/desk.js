@@ -5,7 +5,7 @@ import * as office from "./office.js";
 import { ACT_NAMES, actWords, nameLists, pendingLine, toldActs } from "./acts.js";
 import { addListed, names } from "./names.js";
 import { CODE, addWords, say, word } from "./words.js";
-import { count, day, quantity } from "./numbers.js";
+import { count, day, nominalOf } from "./numbers.js";
 import { deskChoice, onDesk } from "./mydesk.js";
 import { icon, loadStyles, make, put } from "./page.js";
 import { redraw } from "./parts.js";
@@ -15,7 +15,7 @@ import { partOf, stepList, stepPanel } from "./steps.js";
 import { onChange } from "./requests.js";
 import { outcomeWords } from "./outcomes.js";
 
-// The texts of the desk, of its steps and of its acts, in the language of the page.
+// The texts of the desk and of its steps, in the language of the page.
 addWords((await import(`./desk_${CODE}.js`)).default);
 
 // How often the list of what is in force is asked for anew, in milliseconds.
@@ -107,7 +107,7 @@ function putChanging(lanes) {
 function titleOf(sheet) {
   return make("div", { className: "title" }, make("div", {}, make("h1", {}, sheet.batch),
     make("p", { className: "quiet" },
-      `${sheet.product} · ${quantity(sheet.quantity)} ${sheet.unit} · ${word(sheet.state)}`)),
+      `${sheet.product} · ${nominalOf(sheet)} · ${word(sheet.state)}`)),
   make("p", { className: "right" },
     make("a", { href: `#batch/${sheet.batch}` }, say("batch")),
     make("a", { href: `#sheet/${sheet.batch}` }, say("sheet"))));
@@ -262,7 +262,8 @@ export async function build(section) {
   section.append(place.desk, place.names, place.dialog);
   // the forms are there before the first one is opened, also where the link breaks by then
   for (const sign of ["focusin", "pointerover"]) {
-    place.desk.addEventListener(sign, ({ target }) => target.closest(".menu, .held") && loadForms());
+    place.desk.addEventListener(sign,
+      ({ target }) => target.closest(".menu, .held") && loadForms());
   }
   onChange(putTold);
   onDesk(putTold);

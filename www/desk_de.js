@@ -1,4 +1,4 @@
-// The texts of the desk in German: its lists, its steps and its acts.
+// The texts of the desk in German: its lists and its steps.
 
 export default {
   // the lists
@@ -75,56 +75,4 @@ export default {
   c2r2: "{both}, c2 = {c2}, r2 = {r2}",
   toSheet: "Blatt",
   toChart: "Karte",
-  // the acts
-  underWay: "Unterwegs ..",
-  asksAgain: "Auftrag {request}: noch keine Antwort, wird wieder gefragt{tries}. Nichts geschieht "
-    + "doppelt.",
-  asked: "Auftrag {request} wird gefragt.",
-  diskFailed:
-    "Die Platte des Buchs versagt. Die Betreuung rufen. Auftrag {request} wird wieder gefragt.",
-  cannot: "Es kann nicht zurückgenommen werden.",
-  farOff: "Im Buch steht {gross} g für diese Packung, getippt ist {typed} g.",
-  "act.day": "Tag setzen",
-  "act.product": "Neue Ware",
-  "act.product_ml": "Neue Ware nach Volumen",
-  "act.tare": "Tara setzen",
-  "act.open": "Charge eröffnen",
-  "act.open_at": "Charge nach Volumen eröffnen",
-  "act.void": "Packung streichen",
-  "act.end": "Charge beenden",
-  "act.draw": "Probe ziehen",
-  "act.measure": "Eine Packung nachwiegen",
-  "act.second": "Zweite Probe ziehen",
-  "act.close": "Charge abschließen",
-  "field.day": "Tag",
-  "field.from": "Ab diesem Tag",
-  "field.name": "Name",
-  "field.nominal": "Nennmenge, g",
-  "field.nominal_ml": "Nennmenge, ml",
-  "field.density": "Dichte, g je Liter",
-  "field.product": "Ware",
-  "field.tare": "Leere Verpackung, g",
-  "field.batch": "Charge",
-  "field.pack": "Nummer der Packung",
-  "field.mode": "Die Packungen",
-  "field.word": "Wort der Ziehung (erdacht; notieren)",
-  "field.gross": "Ganze Packung, g",
-  "field.empty": "Leere Packung, g",
-  "field.reason": "Warum? (hält das Archiv fest)",
-  keep: "bleiben heil",
-  destroy: "werden geöffnet und geleert",
-  "bad.name": "1 bis 32 aus A-Z a-z 0-9 - _ . und vorn ein Buchstabe oder eine Ziffer.",
-  "bad.day": "Ein Tag ab 1970-01-01.",
-  "bad.amount": "Ein Wert von {least} bis {most} {unit}, wie 262,12.",
-  "bad.text": "Höchstens {most} Buchstaben.",
-  "bad.number": "Eine ganze Zahl bis {most}.",
-  send: "Senden",
-  again: "Noch einmal Enter, um es zu tun.",
-  unseen: "Keine Antwort: vor dem Senden noch einmal ansehen.",
-  farDay: "{day} liegt {days} Tage von heute. Ein Tag kann nicht zurückgenommen werden.",
-  aboutPack:
-    "Packung {number} aus {batch}, Linie {lane}: brutto {gross} g, netto {net} g, {pile}.",
-  aboutBatch: "{batch}: {state}, {population} Packungen, die zählen.",
-  tareReach:
-    "Alle Packungen der Ware ab diesem Tag werden neu beurteilt, auch die hinausgegangenen.",
 };

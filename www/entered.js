@@ -12,8 +12,8 @@ const whole = (values) => (isWhole(values) ? values : null);
 // A list of amounts, one a line.
 export const readList = (text, unit) => whole(lines(text).map((line) => readAmount(line, unit)));
 
-// What a list that is being typed comes to: how many values, their mean and s; or in which line, from
-// 1, is no amount. The last line may not be done yet.
+// What a list that is being typed comes to: how many values, their mean and s; or in which line,
+// from 1, is no amount. The last line may not be done yet.
 export function soFar(text) {
   const typed = lines(text).map((line) => readAmount(line, "g"));
   const bad = typed.slice(0, -1).indexOf(null) + 1;

@@ -1,6 +1,6 @@
 // Evidence beside the book: how a tare was determined, that a scale was checked, a density, and
-// what measuring may be wrong by. The archive keeps each record with its person and hour, chained to
-// the one before. Without an archive the page says so.
+// what measuring may be wrong by. The archive keeps each record with its person and hour, chained
+// to the one before. Without an archive the page says so.
 
 import { addWords, say } from "./words.js";
 import { FIELDS, KINDS, readEntry, soFar } from "./entered.js";
@@ -8,11 +8,11 @@ import { deskChoice } from "./mydesk.js";
 import { dueWords } from "./evidenceshown.js";
 import { grams } from "./evidencewords.js";
 import { isReady, makeSaid, sendAct, tell } from "./acts.js";
-import { loadStyles, make, notice, put, tag } from "./page.js";
+import { loadStyles, make, put } from "./page.js";
 import { spellDay } from "./evidencekinds.js";
-import { table } from "./parts.js";
+import { notice, table, tag } from "./parts.js";
 import { Missing, reach } from "./office.js";
-import { soonPage } from "./soon.js";
+import { archivePage } from "./soon.js";
 
 // How a record may stand, what needs a person first.
 const SIGNS = { bad: ["alarm", "reject"], more: ["warn", "early"], old: ["warn", "clock"],
@@ -146,10 +146,8 @@ function choice(forms) {
     make("label", { for: "e-kind" }, say("head.kind")), select);
 }
 
-export async function build(section) {
-  await loadStyles("parts.css", "tables.css", "forms.css", "evidence.css");
-  const first = await ask("newest").catch(() => null);
-  if (!first) return void soonPage("evidence").build(section);
+async function draw(section) {
+  await loadStyles("tables.css", "forms.css", "evidence.css");
   const [newest, due] = [make("div", { className: "scroll" }), make("div", { role: "status" })];
   const show = async () => {
     const records = (await ask("newest")).said.filter(isProof);
@@ -168,4 +166,4 @@ export async function build(section) {
   await show();
 }
 
-export const refresh = async () => (await import("./office.js")).summary();
+export const { build, refresh } = archivePage("evidence", "newest", draw);

@@ -3,10 +3,23 @@
 
 import * as office from "./office.js";
 import { PAGE, classOf, limitsOf } from "./rules.js";
-import { atRows, keptOfBook, packAt, packs } from "./packs.js";
+import { atRows, forgetBook, keptOfBook, packAt, packs } from "./packs.js";
 import { Weighings } from "./weighings.js";
 
 const limits = keptOfBook();
+
+// So many rows that were seen are asked again, to see that it still is the same book: another one
+// may have more rows by the time a browser wakes.
+const SEEN_AGAIN = 3;
+
+const isSame = (acts, others) => JSON.stringify(acts) === JSON.stringify(others);
+
+// A pack of an act; where there is none there is another book by now, and it is asked again.
+async function packOfAct(number) {
+  const pack = await packAt(number, true);
+  if (!pack) throw new office.Missing("another book");
+  return pack;
+}
 
 async function limitsIn(batch) {
   if (!limits.has(batch)) limits.set(batch, limitsOf(await office.sheet(batch)));
@@ -36,7 +49,7 @@ function packOf({ number, run: { batch }, lane, gross, signal, pile }, tare, bou
 async function tareFor(tares, { number, run, day }) {
   const key = `${run.batch} ${day}`;
   if (!tares.has(key)) {
-    const pack = await packAt(number, true);
+    const pack = await packOfAct(number);
     tares.set(key, pack.gross - pack.net);
   }
   return tares.get(key);
@@ -53,7 +66,8 @@ export class Follower {
   }
 
   forget() {
-    Object.assign(this, { seen: 0, weighings: new Weighings(), tares: new Map() });
+    Object.assign(this, { seen: 0, tail: [], isGap: true, weighings: new Weighings(),
+      tares: new Map() });
   }
 
   // What is new: the rows of the book, packs, and what `Weighings.news` says besides. Packs that
@@ -65,31 +79,40 @@ export class Follower {
   }
 
   async ask(most, isWanted) {
-    const before = this.seen;
-    const { rows, acts } = await actsBehind(before, most);
+    const { seen, tail } = this;
+    const { rows, acts } = await actsBehind(seen - tail.length, most + tail.length);
+    const isGap = acts[0]?.row > seen - tail.length + 1;
     atRows(rows);
-    if (rows < before) {
+    if (rows < seen || (!isGap && !isSame(acts.slice(0, tail.length), tail))) {
+      forgetBook();
       this.forget();
       return { ...await this.ask(most, isWanted), isOther: true };
     }
-    const isGap = before === 0 || acts[0]?.row > before + 1;
     if (isGap) this.forget();
-    for (const act of acts) this.weighings.take(act);
+    const fresh = acts.slice(isGap ? 0 : tail.length);
+    for (const act of fresh) this.weighings.take(act);
+    const apart = seen && fresh.length ? (acts.at(-1).row - seen) / fresh.length : 1;
+    Object.assign(this, { seen: acts.at(-1)?.row ?? seen, tail: acts.slice(-SEEN_AGAIN) });
+    return this.tell(rows, apart, isWanted);
+  }
+
+  // What is new of the acts that were taken. Where an answer is missing it is told the next time.
+  async tell(rows, apart, isWanted) {
+    if (this.weighings.isUnsure) this.tares.clear();
+    const fresh = await this.reckon(this.weighings.fresh.filter(isWanted));
     const news = this.weighings.news();
-    if (news.isUnsure) this.tares.clear();
-    const fresh = await this.reckon(news.fresh.filter(isWanted));
     for (const [number, pile] of news.moved) {
       if (pile && packs.get(number)) packs.get(number).pile = pile;
     }
-    this.seen = acts.at(-1)?.row ?? before;
-    const apart = before && acts.length ? (this.seen - before) / acts.length : 1;
+    const { isGap } = this;
+    this.isGap = false;
     return { ...news, rows, fresh, apart, isGap };
   }
 
   async reckon(fresh) {
     const found = [];
     for (const told of fresh) {
-      told.run.batch ??= (await packAt(told.number)).batch;
+      told.run.batch ??= (await packOfAct(told.number)).batch;
       const tare = await tareFor(this.tares, told);
       packs.set(told.number, packOf(told, tare, await limitsIn(told.run.batch)));
       found.push(packs.get(told.number));

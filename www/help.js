@@ -1,5 +1,5 @@
-// A call for help from a lane, where the archive of the hall is there: it keeps who called and when,
-// and the board shows the call until somebody has come.
+// A call for help from a lane, where the archive of the hall is there: it keeps who called and
+// when, and the board shows the call until somebody has come.
 
 import { addWords, say } from "./words.js";
 import { icon, put } from "./page.js";

@@ -4,7 +4,7 @@
 import * as office from "./office.js";
 import { MOST_PACKS, limitsOf } from "./rules.js";
 import { CODE, addWords, say, time, word } from "./words.js";
-import { ago, count, grams, mass, quantity } from "./numbers.js";
+import { ago, count, grams, mass, nominalOf, quantity } from "./numbers.js";
 import { Follower } from "./follow.js";
 import { packAt } from "./packs.js";
 import { icon, loadStyles, make, meter, put, shape } from "./page.js";
@@ -43,7 +43,8 @@ async function takeRows() {
   state.rows = news.rows;
   // a draw or a tare may have changed the packs that are shown
   if (news.isUnsure || news.isGap) {
-    state.packs = await Promise.all(state.packs.map(({ number }) => packAt(number, true)));
+    const asked = await Promise.all(state.packs.map(({ number }) => packAt(number, true)));
+    state.packs = asked.filter((pack) => pack);
   }
   state.isNew = true;
 }
@@ -181,7 +182,7 @@ function putHead() {
   put(place.number, laneWords(state.lane));
   put(place.batch, state.batch ?? "–");
   const goods = sheet?.batch === state.batch && sheet;
-  put(place.goods, goods ? `${goods.product} · ${quantity(goods.quantity)} ${goods.unit}` : "");
+  put(place.goods, goods ? `${goods.product} · ${nominalOf(goods)}` : "");
 }
 
 // ---- the page

@@ -10,15 +10,15 @@ const MOST_ROWS_ASKED = 2_048;
 const LAST_PACKS = 60;
 const MOST_BATCHES = 16;
 const MINUTE = 60_000;
-// The sheet of a batch of which packs come is asked this often, in milliseconds, and on a fast hall:
-// what it says is the forecast, and each question costs as much as a hundred packs.
+// The sheet of a batch of which packs come is asked this often, in milliseconds, and on a fast
+// hall: what it says is the forecast, and each question costs as much as a hundred packs.
 const SHEET_EVERY = 2_000;
 const SHEET_SELDOM = 8_000;
 // A rate is shown when packs were counted for so long.
 const LEAST_COUNTED = 10_000;
 
-// What is followed: lanes by number, sheets by batch. `apart` is how many packs each one seen of the
-// newest stands for.
+// What is followed: lanes by number, sheets by batch. `apart` is how many packs each one seen of
+// the newest stands for.
 export class Hall {
   constructor() {
     Object.assign(this, { lanes: new Map(), sheets: new Map(), follower: new Follower(), since: 0,
@@ -145,7 +145,7 @@ async function askShown(lane) {
   const ends = [lane.packs[0], lane.packs.at(-1)].filter((number) => number);
   const before = ends.map((number) => packs.get(number)?.net);
   const now = await Promise.all(ends.map((number) => packAt(number, true)));
-  if (now.every((pack, at) => pack.net === before[at])) return;
+  if (now.every((pack, at) => pack?.net === before[at])) return;
   await Promise.all(lane.packs.map((number) => packAt(number, true)));
 }
 

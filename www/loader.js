@@ -6,12 +6,15 @@ import { addNames, names } from "./names.js";
 import { addWords, say } from "./words.js";
 import { atRows } from "./packs.js";
 import { make, put } from "./page.js";
+import { notice } from "./parts.js";
 import { count } from "./numbers.js";
 import { settledPacks } from "./batchpacks.js";
 
 addWords({
   reading: ["{found} of {all} packs read, at row {row}",
     "{found} von {all} Packungen gelesen, bei Zeile {row}"],
+  ofBook: ["From the book {book}, as the archive has it",
+    "Aus dem Buch {book}, wie das Archiv es hat"],
   partly: ["Shown are {found} of {all} packs.", "Gezeigt sind {found} von {all} Packungen."],
 });
 
@@ -40,7 +43,9 @@ export class BatchPage {
       const book = office.oldBook ? `/${office.oldBook}` : "";
       location.hash = `#${this.name}/${this.field.value.trim()}${book}`;
     });
-    section.append(make("h1", { className: "unseen" }, say(this.name)), form, this.said,
+    const { oldBook: book } = office;
+    const old = book ? [notice("", "clock", say("ofBook", { book }))] : [];
+    section.append(make("h1", { className: "unseen" }, say(this.name)), form, ...old, this.said,
       this.place);
   }
 

@@ -103,7 +103,7 @@ function buildHead() {
     keepText("hall.theme", next);
     setTheme(next);
   });
-  put(document.getElementById("where"), [settings.hall, oldBook].filter((one) => one).join(" · "));
+  put(document.getElementById("where"), settings.hall);
 }
 
 document.documentElement.lang = CODE;
@@ -111,11 +111,11 @@ setTheme(readText("hall.theme"));
 fillTexts(document);
 await loadSettings();
 buildHead();
-addEventListener("hashchange", () => {
-  // what was read of one book is no other's
-  if (bookOf(location.hash) === oldBook) following(show);
-  else location.reload();
-});
+// what was read of one book is no other's
+const isOther = () => bookOf(location.hash) !== oldBook;
+addEventListener("hashchange", () => (isOther() ? location.reload() : following(show)));
+// the address may have changed meanwhile
+if (isOther()) location.reload();
 showAge();
 setInterval(showAge, 500);
 await following(show);

@@ -6,18 +6,17 @@ import * as office from "./office.js";
 import { CODE, addWords, say, time, word } from "./words.js";
 import { contentsOf, figuresOf, partOf, readHours, readOrder, squares, taskOf }
   from "./sampletask.js";
-import { count, grams, quantity } from "./numbers.js";
+import { count, grams, nominalOf } from "./numbers.js";
 import { defectsOf } from "./sample.js";
 import { deskChoice } from "./mydesk.js";
 import { empty, farOff, fault, gross, isFarOff, isReady, makeSaid, pendingLine, read, sendAct }
   from "./acts.js";
-import { icon, loadStyles, make, notice, put, tag } from "./page.js";
+import { icon, loadStyles, make, put } from "./page.js";
+import { notice, tag } from "./parts.js";
 import { keepMeasured, measuredOf } from "./measured.js";
 import { packAt } from "./packs.js";
 
-for (const part of ["desk", "measuring"]) {
-  addWords((await import(`./${part}_${CODE}.js`)).default);
-}
+addWords((await import(`./measuring_${CODE}.js`)).default);
 
 const MEASURED_ALREADY = 30;
 const LAST = 5;
@@ -220,7 +219,7 @@ export async function build(section) {
 async function open(batch) {
   const sheet = await office.sheet(batch);
   put(page.goods, sheet.refused ? ""
-    : `${sheet.product} · ${quantity(sheet.quantity)} ${sheet.unit} · ${word(sheet.state)}`);
+    : `${sheet.product} · ${nominalOf(sheet)} · ${word(sheet.state)}`);
   if (!sheet.first || sheet.verdict) {
     page.place.replaceChildren(notice("", "idle", say("mNothing"), make("p", {},
       make("a", { className: "button second m-leave", href: `#desk/${batch}` }, say("desk")))));

@@ -5,7 +5,8 @@ import { addWords, say } from "./words.js";
 import { canKeep, isMine, onChange, take } from "./requests.js";
 import { forgetLost, lost, pending } from "./kept.js";
 import { keepText, readText } from "./store.js";
-import { make, notice, put } from "./page.js";
+import { make, put } from "./page.js";
+import { notice } from "./parts.js";
 
 addWords({
   myDesk: ["My desk", "Mein Platz"],

@@ -29,6 +29,9 @@ export function quantity(milligrams) {
   return grams(milligrams, behind);
 }
 
+// The nominal quantity of a batch with its unit, which stays beside it.
+export const nominalOf = (sheet) => `${quantity(sheet.quantity)}\u00a0${sheet.unit}`;
+
 export function percent(part, places = 2, isSigned = false) {
   return `${fixed(part * 100, places, isSigned)} %`;
 }

@@ -23,8 +23,9 @@ const OFFICE = oldBook ? `archive/old/${encodeURIComponent(oldBook)}/` : "hall/"
 // No answer came, or one that isn't the office's: what was asked may be asked again.
 export class Missing extends Error {}
 
-// When a question was last answered, and why the newest wasn't: a status, or the name of a fault.
-export const link = { at: 0, why: "" };
+// When a question was last answered, by the office of which book, and why the newest wasn't: a
+// status, or the name of a fault.
+export const link = { at: 0, why: "", book: null };
 
 let free = AT_ONCE;
 const waiting = [];
@@ -48,7 +49,8 @@ export async function reach(path, options = {}) {
     const address = new URL(path, location.origin + location.pathname);
     const response = await fetch(address, { ...limits, ...options });
     const text = await response.text();
-    return { status: response.status, row: Number(response.headers.get("Book-Row")), text };
+    const [row, book] = ["Row", "Name"].map((name) => response.headers.get(`Book-${name}`));
+    return { status: response.status, row: Number(row), book, text };
   } catch (fault) {
     throw new Missing(fault.name);
   }
@@ -61,7 +63,9 @@ export async function ask(path, canWait = false) {
   try {
     const answer = await reach(OFFICE + path);
     if (![200, 409].includes(answer.status)) throw new Missing(String(answer.status));
-    Object.assign(link, { at: Date.now(), why: "" });
+    // another book was begun: nothing that the page shows is of it
+    if (answer.book && answer.book !== (link.book ?? answer.book)) location.reload();
+    Object.assign(link, { at: Date.now(), why: "", book: answer.book ?? link.book });
     return answer.status === 409 ? { ...answer, ...JSON.parse(answer.text) } : answer;
   } catch (fault) {
     link.why = fault.message;

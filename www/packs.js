@@ -13,9 +13,14 @@ export function keptOfBook() {
   return kept;
 }
 
-// A book of fewer rows than were seen is another book: nothing that is kept is of it.
+// There is another book: nothing that is kept is of it.
+export function forgetBook() {
+  for (const kept of state.kept) kept.clear();
+}
+
+// A book of fewer rows than were seen is another book.
 export function atRows(rows) {
-  if (rows < state.rows) for (const kept of state.kept) kept.clear();
+  if (rows < state.rows) forgetBook();
   state.rows = rows;
 }
 

@@ -28,19 +28,15 @@ export function put(place, text) {
   if (place.textContent !== String(text)) place.textContent = text;
 }
 
-const ICONS = {
+export const ICONS = {
   pass: "M4 12.8l5.2 5.2L20 6.8",
   reject: "M5 5l14 14M19 5L5 19",
   warn: "M12 3.2L22 20.5H2zM12 9.5v5M12 17.2v.6",
   held: "M8 2.5h8l5.5 5.5v8L16 21.5H8L2.5 16V8zM7 12h10",
   idle: "M8.5 5v14M15.5 5v14",
   clock: "M12 2.5a9.5 9.5 0 1 0 0 19a9.5 9.5 0 1 0 0-19M12 6.5V12l4 2.5",
-  void: "M4 4h16v16H4zM4 20L20 4",
-  next: "M5 12h14M13 6l6 6l-6 6",
-  print: "M6 9V3h12v6M6 17H3V9h18v8h-3M6 14h12v7H6z",
   theme: "M12 3a9 9 0 1 0 0 18a9 9 0 1 0 0-18M12 3v18M12 7l5-2M12 12h9M12 17l5 2",
   early: "M6 3h12M6 21h12M7 3c0 5 5 6 5 9s-5 4-5 9M17 3c0 5-5 6-5 9s5 4 5 9",
-  dot: "M12 8a4 4 0 1 0 0 8a4 4 0 1 0 0-8",
   sound: "M4 9v6h4l5 4V5L8 9zM16.5 8.5a5 5 0 0 1 0 7M19 6a9 9 0 0 1 0 12",
   silent: "M4 9v6h4l5 4V5L8 9zM16.5 9.5l5 5M21.5 9.5l-5 5",
 };
@@ -48,11 +44,6 @@ const ICONS = {
 export function icon(name) {
   return shape("svg", { class: `icon i-${name}`, viewBox: "0 0 24 24", "aria-hidden": "true" },
     shape("path", { d: ICONS[name] }));
-}
-
-// A sign and its word: what is said by colour is said by these too.
-export function tag(kind, sign, text) {
-  return make("span", { className: `tag ${kind}` }, icon(sign), make("span", {}, text));
 }
 
 // How much of what is allowed is used: the bar ends at what is allowed, and what is over it lies
@@ -66,11 +57,6 @@ export function meter(used, allowed, kind = "") {
     : [bar("over", inside, 100 - inside), bar("tick", Math.max(0, inside - .6), .8)];
   return shape("svg", { class: `meter ${kind}`, viewBox: "0 0 100 8", "aria-hidden": "true",
     preserveAspectRatio: "none" }, bar("track", 0, 100), bar("fill", 0, inside), over);
-}
-
-export function notice(kind, sign, title, ...more) {
-  return make("div", { className: `notice ${kind}` },
-    icon(sign), make("div", {}, make("strong", {}, title), more));
 }
 
 // Fills every element that names its text.

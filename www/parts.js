@@ -1,7 +1,25 @@
-// Parts that several pages have and the board hasn't: tags of signals and verdicts, tables, facts.
+// Parts that several pages have and the board hasn't: tags of signals and verdicts, notices,
+// tables, facts.
 
-import { make, tag } from "./page.js";
+import { ICONS, icon, make } from "./page.js";
 import { say, word } from "./words.js";
+
+Object.assign(ICONS, {
+  void: "M4 4h16v16H4zM4 20L20 4",
+  next: "M5 12h14M13 6l6 6l-6 6",
+  print: "M6 9V3h12v6M6 17H3V9h18v8h-3M6 14h12v7H6z",
+  dot: "M12 8a4 4 0 1 0 0 8a4 4 0 1 0 0-8",
+});
+
+// A sign and its word: what is said by colour is said by these too.
+export function tag(kind, sign, text) {
+  return make("span", { className: `tag ${kind}` }, icon(sign), make("span", {}, text));
+}
+
+export function notice(kind, sign, title, ...more) {
+  return make("div", { className: `notice ${kind}` },
+    icon(sign), make("div", {}, make("strong", {}, title), more));
+}
 
 // Puts parts in the place of those that are there where they differ, so that a link keeps its
 // focus.

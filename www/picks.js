@@ -3,9 +3,9 @@
 
 import * as office from "./office.js";
 import { addWords, say } from "./words.js";
-import { count, grams, quantity } from "./numbers.js";
-import { loadStyles, make, notice, put } from "./page.js";
-import { table } from "./parts.js";
+import { count, grams, nominalOf } from "./numbers.js";
+import { loadStyles, make, put } from "./page.js";
+import { notice, table } from "./parts.js";
 import { packAt } from "./packs.js";
 import { packsOf } from "./batchpacks.js";
 
@@ -80,7 +80,7 @@ function button(text, kind, act) {
 const page = { about: "", isOpen: false, isBusy: false };
 
 export async function build(section) {
-  await loadStyles("parts.css", "tables.css", "forms.css");
+  await loadStyles("parts.css", "tables.css", "forms.css", "picks.css");
   page.place = section;
 }
 
@@ -100,7 +100,7 @@ async function open(batch) {
     put(said, say("pickReads", { found: count(found), all: count(all) }));
     return said.isConnected;
   });
-  put(said, `${sheet.product} · ${quantity(sheet.quantity)} ${sheet.unit}. ${say("pickHint")}`);
+  put(said, `${sheet.product} · ${nominalOf(sheet)}. ${say("pickHint")}`);
   said.after(make("div", { className: "scroll" }, listTable(sheet, packs)),
     make("p", { className: "acts no-print" }, button(say("print"), "", () => print()),
       button(say("labels"), "second", () => download(`${batch}.zpl`, zplOf(batch, packs))), back));

@@ -5,11 +5,11 @@
 import { LANGUAGE, addWords, say } from "./words.js";
 import { count, day, fixed, grams, mass } from "./numbers.js";
 import { drawDays } from "./reportchart.js";
-import { icon, loadStyles, make, meter, notice } from "./page.js";
-import { facts, table, verdictTag } from "./parts.js";
+import { icon, loadStyles, make, meter } from "./page.js";
+import { facts, notice, table, verdictTag } from "./parts.js";
 import { Missing, reach } from "./office.js";
 import { FIGURES, batchLink, moneyOf, rowsOf } from "./reportwords.js";
-import { soonPage } from "./soon.js";
+import { archivePage } from "./soon.js";
 
 const BY = ["shift", "day", "week", "month", "product", "lane", "hall", "book"];
 const CAUSES = ["told_allowance", "told_inadequate", "told_held", "told_full", "stayed"];
@@ -18,6 +18,8 @@ addWords({
   reportFrom: ["From", "Von"],
   reportTo: ["To", "Bis"],
   reportBy: ["One line for each", "Eine Zeile je"],
+  reportOf: ["Report", "Bericht"],
+  linesBy: ["One line for each: {by}", "Eine Zeile je {by}"],
   nothingWeighed: ["Nothing was weighed in these days.", "In diesen Tagen wurde nichts gewogen."],
   summedBehind: ["Rows {summed} of {rows} of {book} are in these figures.",
     "Zeilen {summed} von {rows} von {book} sind in diesen Zahlen."],
@@ -52,7 +54,7 @@ function headFacts({ total, currency, closed }) {
   return make("div", { className: "panel" }, facts([
     [say("f.packed"), mass(total.net), say("f.packs", { count: count(total.population) })],
     [say("f.over"), mass(total.over, true), percent(total.share)],
-    [say("f.money"), moneyOf(total, currency), ""],
+    [say("f.money"), moneyOf(total, currency), total.money === null ? say("f.noPrice") : ""],
     [say("f.nonstandard"), count(total.nonstandard), share(total.nonstandard)],
     [say("f.rejected"), count(total.rejected), share(total.rejected)],
     [say("f.closed"), count(closed), say("f.verdicts", { released: count(total.released),
@@ -80,7 +82,7 @@ function matrixPanel(report) {
   const heads = [say("product"), ...lanes.map((lane) => say("laneOf", { lane })), say("allLanes"),
     say("f.money")];
   const rows = [...goods.map((name) => line(name, name)), line("", say("allGoods"))];
-  return make("section", { className: "panel scroll" },
+  return make("section", { className: "panel scroll r-goods" },
     table(say("givenMatrix"), heads, rows, ["", ...heads.slice(1).map(() => "right")]));
 }
 
@@ -104,7 +106,8 @@ function linesPanel(report) {
     ? moneyOf(line, report.currency) : line[key] === null ? "–" : spell(line[key]))),
   make("small", {}, rowsOf(line.rows, report.halls))];
   const rows = report.lines.map((line) => row(say(line.name), line));
-  return make("section", { className: "panel scroll" }, table("", heads,
+  const title = say("linesBy", { by: say(`by.${report.by}`) });
+  return make("section", { className: "panel scroll r-lines" }, table(title, heads,
     [...rows, row(say("total"), report.total)], ["", ...FIGURES.map(() => "right"), ""]));
 }
 
@@ -118,7 +121,7 @@ function batchPanel(report) {
     verdictTag(one.verdict), one.book]);
   return make("section", { className: "panel scroll" },
     table(say("verdictList", { closed: count(report.closed) }) + some,
-      heads.map((name) => say(name)), rows, ["", "", "", "right", "right", "", ""]));
+      heads.map((name) => say(name)), rows, ["", "", "keep", "right", "right", "", "keep"]));
 }
 
 function refusedPanel({ refused }) {
@@ -178,18 +181,18 @@ function periods() {
 const today = () => new Date(Date.now() - new Date().getTimezoneOffset() * 60_000)
   .toISOString().slice(0, 10);
 
-export async function build(section) {
-  await loadStyles("parts.css", "tables.css", "figures.css", "forms.css", "reports.css");
-  if (!await ask("halls").catch(() => null)) return void soonPage("reports").build(section);
+async function drawPage(section) {
+  await loadStyles("tables.css", "figures.css", "charts.css", "forms.css", "reports.css");
   state.last = today();
   state.first = `${state.last.slice(0, 8)}01`;
   links = ["csv", "xlsx", "pdf"].map((form) => make("a", { className: "button second",
     "data-form": form, download: "" }, form.toUpperCase()));
-  place = make("div", { className: "stack", role: "region", "aria-live": "polite" });
+  place = make("div", { className: "stack", role: "region", "aria-live": "polite",
+    "aria-label": say("reportOf") });
   section.append(make("h1", {}, say("reports")), make("div", { className: "r-bar no-print" },
     field("first", "reportFrom"), field("last", "reportTo"), periods(),
     make("p", { className: "right" }, links)), place);
   await load();
 }
 
-export const refresh = async () => (await import("./office.js")).summary();
+export const { build, refresh } = archivePage("reports", "halls", drawPage);

@@ -5,10 +5,10 @@
 import { addWords, say } from "./words.js";
 import { batchLink } from "./reportwords.js";
 import { count, day, grams } from "./numbers.js";
-import { loadStyles, make, notice, tag } from "./page.js";
-import { signalTag, table, verdictTag } from "./parts.js";
+import { loadStyles, make } from "./page.js";
+import { notice, signalTag, table, tag, verdictTag } from "./parts.js";
 import { reach } from "./office.js";
-import { soonPage } from "./soon.js";
+import { archivePage } from "./soon.js";
 
 addWords({
   searchAll: ["Search all books", "Alle Bücher durchsuchen"],
@@ -26,6 +26,7 @@ addWords({
   "s.most": ["The newest {count} batches; ask closer",
     "Die neuesten {count} Chargen; enger fragen"],
   "s.packs": ["Packs of this number", "Packungen dieser Nummer"],
+  "s.answer": ["What was found", "Gefunden"],
   "s.nothing": ["No batch and no pack is like that.", "Keine Charge und keine Packung ist so."],
   "s.bad": ["The archive can't be asked so.", "So kann das Archiv nicht gefragt werden."],
 });
@@ -50,7 +51,7 @@ function batchTable(batches, halls) {
     one.verdict ? verdictTag(one.verdict) : tag("calm", "dot", say(one.state)), one.book]);
   const title = say(batches.length < MOST ? "s.found" : "s.most", { count: count(batches.length) });
   return make("section", { className: "panel scroll" }, table(title,
-    heads.map((name) => say(name)), rows, ["", "", "", "right", "right", "", ""]));
+    heads.map((name) => say(name)), rows, ["", "", "keep", "right", "right", "", "keep"]));
 }
 
 function packTable(packs, halls) {
@@ -58,7 +59,7 @@ function packTable(packs, halls) {
   const rows = packs.map((one) => [one.book, batchLink(one, halls), one.product, day(one.day),
     count(one.lane), grams(one.gross), signalTag(one.signal)]);
   return make("section", { className: "panel scroll" }, table(say("s.packs"),
-    heads.map((name) => say(name)), rows, ["", "", "", "", "right", "right", ""]));
+    heads.map((name) => say(name)), rows, ["keep", "", "", "keep", "right", "right", ""]));
 }
 
 async function find(form, place, halls) {
@@ -75,12 +76,10 @@ async function find(form, place, halls) {
   place.replaceChildren(...(parts.length ? parts : [notice("", "dot", say("s.nothing"))]));
 }
 
-export async function build(section) {
-  await loadStyles("parts.css", "tables.css", "forms.css", "search.css");
-  const answer = await reach("archive/halls").catch(() => null);
-  if (answer?.status !== 200) return void soonPage("search").build(section);
-  const { halls } = JSON.parse(answer.text);
-  const place = make("div", { role: "region", "aria-live": "polite", className: "s-found" });
+async function draw(section, { halls }) {
+  await loadStyles("tables.css", "forms.css", "search.css");
+  const place = make("div", { role: "region", "aria-live": "polite", className: "s-found",
+    "aria-label": say("s.answer") });
   const form = make("form", { className: "panel s-form", role: "search" },
     FIELDS.map(([name, kind]) => make("p", { className: "field" },
       make("label", { for: `s-${name}` }, say(`s.${name}`)), inputOf(name, kind))),
@@ -94,4 +93,4 @@ export async function build(section) {
   await find(form, place, halls);
 }
 
-export const refresh = async () => (await import("./office.js")).summary();
+export const { build, refresh } = archivePage("search", "halls", draw);

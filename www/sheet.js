@@ -8,8 +8,9 @@ import { CODE, addWords, say, time, word } from "./words.js";
 import { askArchive } from "./archived.js";
 import { allowedOf, limitsOf } from "./rules.js";
 import { contentsCheck } from "./sample.js";
-import { count, day, fixed, grams, percent, quantity } from "./numbers.js";
-import { icon, loadStyles, make, notice, shape } from "./page.js";
+import { count, day, fixed, grams, nominalOf, percent } from "./numbers.js";
+import { icon, loadStyles, make, whenSized } from "./page.js";
+import { notice } from "./parts.js";
 import { BatchPage } from "./loader.js";
 import { drawChart } from "./chart.js";
 import { failsOf } from "./forecast.js";
@@ -107,7 +108,7 @@ function tareLines({ paper }, packs) {
 
 function goodsLines(sheet) {
   const { nominal, error, t1, t2 } = limitsOf(sheet);
-  const amount = `${quantity(sheet.quantity)} ${sheet.unit}`;
+  const amount = nominalOf(sheet);
   const volume = sheet.unit === "ml" ? [[say("densityOf"), grams(sheet.density)]] : [];
   return [[say("nominalLong"), sheet.unit === "ml" ? `${amount} = ${grams(nominal)} g`
     : `${grams(nominal)} g`], ...volume, [say("error"), `${grams(error)} g`],
@@ -178,7 +179,7 @@ function headOf(sheet) {
   return make("header", { className: "sh-head" }, make("div", {},
     make("p", { className: "quiet" }, `${say("sheetTitle")} · ${say("system")}`),
     make("h2", {}, sheet.batch),
-    make("p", {}, `${sheet.product} · ${quantity(sheet.quantity)} ${sheet.unit} ℮ · `
+    make("p", {}, `${sheet.product} · ${nominalOf(sheet)} ℮ · `
       + word(sheet.state))), verdictBox(sheet));
 }
 
@@ -195,6 +196,25 @@ function footOf(sheet, { paper }, evidence) {
       make("p", { className: "sign" }, say("signed"))));
 }
 
+// The chart as it is printed, drawn anew just before that: a small screen has a narrower one.
+let drawForPaper = () => {};
+addEventListener("beforeprint", () => drawForPaper());
+
+function chartOf(sheet, packs) {
+  const place = make("div", { className: "sh-chart" });
+  if (packs.length === 0) return place;
+  let drawn = 0;
+  const draw = (wide) => {
+    if (wide === drawn) return;
+    drawn = wide;
+    place.replaceChildren(drawChart({ sheet, packs, view: [0, packs.length], wide }).picture);
+  };
+  drawForPaper = () => draw(CHART_WIDE);
+  drawForPaper();
+  whenSized(place, (wide) => draw(Math.min(CHART_WIDE, wide)));
+  return place;
+}
+
 function sheetOf(sheet, packs, samples, evidence) {
   const test = testOf(sheet, samples);
   const { plan } = test;
@@ -202,14 +222,12 @@ function sheetOf(sheet, packs, samples, evidence) {
   const about = { plan, t1, isDestroy: sheet.mode === "destroy" };
   const planWords = say("planRow", { ...plan, count: count(sheet.population),
     mode: say(`mode ${sheet.mode ?? "keep"}`), k: fixed(plan.k / 1000, 3) });
-  const chart = packs.length ? drawChart({ sheet, packs, view: [0, packs.length],
-    wide: CHART_WIDE }).picture : shape("svg", { viewBox: "0 0 1 1", "aria-hidden": "true" });
   const hasWeights = samples.first.some(({ gross }) => gross !== null);
   return [isOtherwise(sheet, test) ? notice("alarm", "reject", say("differs")) : "",
     make("article", { className: "paper" }, headOf(sheet),
       make("p", { className: "sh-plan" }, planWords), factBlocks(sheet, samples, packs),
       checkTable(sheet, test), make("h3", {}, say("chartHead")),
-      make("div", { className: "sh-chart" }, chart), hasWeights ? [
+      chartOf(sheet, packs), hasWeights ? [
         weightTable("first", samples, about), weightTable("second", samples, about),
         make("p", { className: "sh-note" }, say("lightMark", { t1: grams(t1) }))] : [],
       outList(packs), evidence ?? [], footOf(sheet, samples, evidence))];
@@ -254,7 +272,7 @@ async function draw(place, sheet, packs) {
 const page = new BatchPage("sheet", draw);
 
 export async function build(section) {
-  await loadStyles("parts.css", "tables.css", "figures.css", "sheet.css");
+  await loadStyles("parts.css", "tables.css", "figures.css", "charts.css", "sheet.css");
   page.build(section);
 }
 

@@ -40,7 +40,8 @@ function actLines(acts) {
   return [...own.map(actLine), ...measuredLines(of("measure")), ...of("close").map(actLine)];
 }
 
-// The fingerprint of the rows up to the closing, as the witness has it; nothing as long as it hasn't.
+// The fingerprint of the rows up to the closing, as the witness has it; nothing as long as it
+// hasn't.
 async function fingerprintOf(acts) {
   const closing = acts.find(({ kind }) => kind === "close");
   const line = closing

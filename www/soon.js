@@ -1,12 +1,16 @@
-// A page that needs the archive of the hall, which isn't set up: it says so, and what to do
-// instead.
+// A page that needs the archive of the hall. As long as none answers it says so, and what to do
+// instead; it looks again now and then, and comes as soon as one does.
 
 import { addWords, say } from "./words.js";
-import { loadStyles, make, notice } from "./page.js";
+import { Missing, reach, summary } from "./office.js";
+import { loadStyles, make } from "./page.js";
+import { notice } from "./parts.js";
 
 addWords({
-  needsArchive: ["This page needs the archive of the hall, which isn't set up here.",
-    "Diese Seite braucht das Archiv der Halle, das hier nicht eingerichtet ist."],
+  needsArchive: ["This page needs the archive of the hall, and none answers.",
+    "Diese Seite braucht das Archiv der Halle, und keines antwortet."],
+  archiveSoon: ["Where one is set up, the page comes as soon as it answers. Without one:",
+    "Ist eines eingerichtet, kommt die Seite, sobald es antwortet. Ohne Archiv:"],
   "instead reports": [
     "A report of one book: hall report --book BOOK, or the register by hall export.",
     "Ein Bericht eines Buchs: hall report --book BUCH, oder das Register mit hall export."],
@@ -16,13 +20,41 @@ addWords({
     "Eine Charge dieses Buchs steht unter Charge und Blatt, mit ihrem Namen."],
 });
 
-export function soonPage(name) {
+// How often it is looked for an archive, in milliseconds.
+const EVERY = 5_000;
+
+// The page `name`, which `draw` draws into its section of what the archive answers at `path`.
+export function archivePage(name, path, draw) {
+  let place = null;
+  let isDrawn = false;
+  let at = 0;
+
+  const instead = () => place.replaceChildren(make("h1", {}, say(name)), notice("", "dot",
+    say("needsArchive"), make("p", {}, `${say("archiveSoon")} ${say(`instead ${name}`)}`)));
+
+  async function tryIt() {
+    at = Date.now();
+    const answer = await reach(`archive/${path}`).catch(() => null);
+    if (answer?.status !== 200) return void (place.firstChild || instead());
+    place.replaceChildren();
+    try {
+      await draw(place, JSON.parse(answer.text));
+      isDrawn = true;
+    } catch (fault) {
+      if (!(fault instanceof Missing)) throw fault;
+      instead();
+    }
+  }
+
   return {
     async build(section) {
+      place = section;
       await loadStyles("parts.css");
-      section.append(make("h1", {}, say(name)),
-        notice("", "dot", say("needsArchive"), make("p", {}, say(`instead ${name}`))));
+      await tryIt();
     },
-    refresh: async () => (await import("./office.js")).summary(),
+    async refresh() {
+      await summary();
+      if (!isDrawn && Date.now() - at > EVERY) await tryIt();
+    },
   };
 }

@@ -8,8 +8,8 @@ const OF_A_BATCH = ["open", "end", "draw", "second", "close"];
 // After these a pack may weigh or lie otherwise, which the acts alone don't say.
 const UNSURE = ["tare", "draw", "second"];
 
-// What each lane does. The batch of a lane that started before the first act isn't known: it is null
-// until somebody says it, and empty where the lane has none. `day` counts the days that came.
+// What each lane does. The batch of a lane that started before the first act isn't known: it is
+// null until somebody says it, and empty where the lane has none. `day` counts the days that came.
 export class Weighings {
   constructor() {
     Object.assign(this, { lanes: new Map(), day: 0 });
