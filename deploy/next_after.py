@@ -43,9 +43,13 @@ class Afterwards:
             raise Failed(f"{self.move.new} is served, and this isn't done: {', '.join(left)}")
 
     def audit(self) -> None:
-        """The old book is audited, its fingerprint noted beside it, and nobody writes it again."""
+        """The old book is audited, its fingerprint noted beside it, and nobody writes it again. It
+        is held once more against what was carried of it."""
         move, place = self.move, self.place
         path, note = move.book(move.old), f"{place.books}/{move.old}.audit"
+        has = next_book.carried(place.listing(path))
+        if has != move.known.get("carried", has):
+            raise Failed(f"{move.new} was begun with another day, product or tare: {has}")
         said = place.of_hall("audit", path)
         write(note, said, 0o440)
         if place.has_users:

@@ -134,18 +134,17 @@ class Place:
     def seen(self, path: str) -> str:
         return self.of_served("list", path)
 
-    def ask(self, port: int) -> str:
-        """The summary that a door says; the walls let the group hall-doors ask. Empty without an
-        answer."""
+    def ask(self, port: int, path: str) -> str | None:
+        """What a door says; the walls let the group hall-doors ask. None without an answer."""
         link = http.client.HTTPConnection("127.0.0.1", port, timeout=PATIENCE)
         try:
             if self.has_users:
                 os.setegid(grp.getgrnam("hall-doors").gr_gid)
-            link.request("GET", "/summary", headers={"Connection": "close"})
+            link.request("GET", path, headers={"Connection": "close"})
             answer = link.getresponse()
-            return answer.read().decode("ascii") if answer.status == 200 else ""
+            return answer.read().decode("ascii") if answer.status == 200 else None
         except (OSError, KeyError, http.client.HTTPException):
-            return ""
+            return None
         finally:
             os.setegid(os.getgid())
             link.close()
