@@ -1,5 +1,5 @@
-"""The list of a book whose hall is at work: begun by the program, carried on by what its doors say is
-new, until its hall ends. So no book is read whole while lanes stand."""
+"""The list of a book whose hall is at work: begun by the program, carried on by what its doors say
+is new, until its hall ends. So no book is read whole while lanes stand."""
 
 import os
 from typing import NoReturn
@@ -69,8 +69,8 @@ def ports_of(env: str) -> list[int]:
 
 
 def rows_left(path: str) -> int | None:
-    """How many rows a hall that ended in good order left in a book, by the snapshot at its end; None
-    where there is none."""
+    """How many rows a hall that ended in good order left in a book, by the snapshot at its end;
+    None where there is none."""
     with open(path, "rb") as file:
         header = file.read(SLOT)
         size = file.seek(0, os.SEEK_END)

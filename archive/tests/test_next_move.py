@@ -113,8 +113,8 @@ class Moves(unittest.TestCase):
         return os.path.exists(f"{self.folder}/{name}")
 
     def hand_over(self) -> None:
-        # of the old book before its hall ends, of the next one, of the old one at rest, and again of
-        # the next one
+        # of the old book before its hall ends, of the next one, of the old one at rest, and again
+        # of the next one
         self.place.lists = self.lists or [CLOSED, DAY, CLOSED, DAY]
         self.go_on()
 
@@ -174,23 +174,24 @@ class Moves(unittest.TestCase):
 
     def test_what_doors_say_is_all_of_the_list(self) -> None:
         self.lists = [f"{OPEN}rows 5 left 9\n", DAY, TARE]
-        self.place.acts = [
-            "6 released\tdoor 1\t@101 3 close A\n", "7 ok\tdoor 1\t@101 4 tare rice250 2026-12-01 11.000\n"
-        ]  # fmt: skip
+        tare = "tare rice250 2026-12-01 11.000"
+        self.place.acts = ["6 released\tdoor 1\t@101 3 close A\n", f"7 ok\tdoor 1\t@101 4 {tare}\n"]
         self.ended(7)
         self.hand_over()
         self.assertEqual(self.place.read, 1)
         self.assertEqual(self.move.known["carried"], TARE.splitlines())
 
     def test_a_row_more_than_doors_said(self) -> None:
-        for rows, more in ((8, [""]), (7, [])):
+        said: list[tuple[int, list[str]]] = [(8, [""]), (7, [])]
+        for rows, more in said:
             with self.subTest(rows=rows):
                 self.setUp()
                 self.lists = [f"{CLOSED}rows 5 left 9\n", DAY, CLOSED, DAY]
-                self.place.acts = ["6 ok\tlane 1\tstop 1 none\n", *more]
+                self.place.acts = ["6 ok\tscript\tday 2026-12-01\n", *more]
                 self.ended(rows)
                 self.hand_over()
                 self.assertEqual(self.place.read, 2)
+                self.assertTrue(self.move.known["carried"])
 
     def test_one_that_is_opened_before_the_hall_ends(self) -> None:
         self.lists = [f"{CLOSED}rows 5 left 9\n", DAY]
