@@ -21,6 +21,7 @@ class Afterwards:
     def __init__(self, move: Move) -> None:
         self.move, self.place = move, move.place
         self.steps = (
+            ("follow", self.follow),
             ("audit", self.audit),
             ("keepers", self.keepers),
             ("archive", self.archive),
@@ -75,21 +76,35 @@ class Afterwards:
         self.place.control("enable", "--now", new)
         self.place.control("disable", "--now", old)
 
-    def archive(self) -> None:
-        """The archive takes the end of the old book, and follows the next one, with its witness."""
+    @property
+    def archived(self) -> str:
+        """The archive's settings; empty where it doesn't know the book."""
+        path = f"{self.place.settings}/archive.toml"
+        is_there = os.path.exists(path) and f'"{self.move.old}"' in read(path)
+        return path if is_there else ""
+
+    def follow(self) -> None:
+        """The archive follows the next book at once, so that its rows have their hours."""
         move, place = self.move, self.place
-        path = f"{place.settings}/archive.toml"
-        if not os.path.exists(path) or f'"{move.old}"' not in read(path):
+        if not (path := self.archived):
             return
         text = next_book.archive_moved(read(path), move.old, move.new)
         if text != read(path):
             write(path, text, like=path)
-        words = [*place.archive, "--settings", path, "take", move.old]
-        place.run(place.as_user("hall-archive", words))
         self.hand_on(FOLLOW)
-        self.hand_on(STAMP)
         # it reads its settings as it begins
         place.control("try-restart", "hall-archive")
+
+    def archive(self) -> None:
+        """The archive takes the end of the old book, whose witness gets its last line."""
+        place = self.place
+        if not (path := self.archived):
+            return
+        words = [*place.archive, "--settings", path, "take", self.move.old]
+        # (the front's log is for the group adm)
+        place.run(place.as_user("hall-archive", words, "adm"))
+        place.journal(place.beside)
+        self.hand_on(STAMP)
 
     def stand_by(self) -> None:
         """The second machine gets the end of the old book, and then the next."""

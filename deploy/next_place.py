@@ -102,8 +102,14 @@ class Place:
         self.beside = ran.stderr
         return ran.stdout
 
-    def as_user(self, user: str, words: list[str]) -> list[str]:
-        return ["runuser", "-u", user, "--", *words] if self.has_users else words
+    def as_user(self, user: str, words: list[str], group: str = "") -> list[str]:
+        more = ["-g", user, "-G", group] if group else []
+        return ["runuser", "-u", user, *more, "--", *words] if self.has_users else words
+
+    def journal(self, said: str) -> None:
+        """Has lines in the journal, where they leave the machine with it."""
+        if self.has_users:
+            self.run(["logger", "--tag", "hall-next"], given=said)
 
     def control(self, *words: str) -> str:
         return self.run([*self.systemctl, *words])

@@ -3,6 +3,7 @@ its front, a changing lane, the list, numbers, copies, the day's timer, the arch
 witness, and a second machine by ssh; it refuses, is killed, and run again. Run by
 archive_installed.py, where the first book is followed by the archive."""
 
+import json
 import random
 import re
 import subprocess
@@ -51,6 +52,8 @@ said = "/run/hall/NAME/standby.txt"
 # Reads what the gates of a book are told, as one who stands there.
 GATES = 'while :; do cat "$0" >/dev/null; sleep 0.1; done'
 KILLED_WITHIN = 3.0
+# Seconds from a device's connection to its first line.
+JOINED = 2
 
 
 def put(debian: Debian, path: str, text: str, name: str) -> None:
@@ -59,8 +62,10 @@ def put(debian: Debian, path: str, text: str, name: str) -> None:
 
 
 def say(debian: Debian, port: int, line: str) -> None:
-    """A device says a line to the adapter."""
-    debian.run(f"bash -c \"printf '{line}\\r\\n' > /dev/tcp/127.0.0.1/{port}\"", 0)
+    """A device says a line to the adapter, a moment after it was joined: what comes at once is
+    taken for an old weight."""
+    said = f"printf '{line}\\r\\n' >&3"
+    debian.run(f'bash -c "exec 3>/dev/tcp/127.0.0.1/{port}; sleep {JOINED}; {said}; sleep 1"', 0)
 
 
 # ---- what there is to hand over
@@ -190,6 +195,10 @@ def check_old(debian: Debian, old: str) -> None:
     need(register == export, f"the archive's register of {old} is another")
     witness = debian.run(f"{asked} verify {old} 2>&1", 0)
     need("fingerprints hold" in witness, witness)
+    last = debian.run(f"tail -n 1 /var/lib/hall-archive/main.{old}.witness", 0).split()
+    need(last[1] == str(rows) and last[-1] == audited.split()[-1], f"the last line is {last}")
+    said = debian.run(f"journalctl -o cat -t hall-next -t hall-archive | grep -c '{last[2]}'")
+    need(int(said) > 0, "the journal lacks the last line")
     need(debian.run(f"cat /etc/hall/{old}.next", 0).count('"archive"') == 1, "not noted")
 
 
@@ -204,6 +213,9 @@ def check_new(debian: Debian, served: Served, old: str, new: str) -> None:
     numbers(debian, new)
     books = served.text("anna", ADDRESS, "/archive/books")
     need(old in books and new in books, f"the archive has {books}")
+    closings = json.loads(served.text("anna", ADDRESS, f"/archive/acts?book={old}&kind=close"))
+    persons = {one["person"] for one in closings}
+    need(len(closings) > 1 and persons == {"anna"}, f"closings are by {persons}")
     debian.wait("the second machine has the next", lambda: copied(debian, new) > 4)
     page = "/etc/hall/two.lane.toml"
     need(f"/run/hall-{new}/" in debian.run(f"cat {page}", 0), "the lane leads to the old book")
