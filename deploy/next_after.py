@@ -58,6 +58,9 @@ class Afterwards:
                 shutil.chown(one, "root", "hall")
         os.chmod(path, 0o440)
         move.keep(sha256=said.split("sha256 ")[1].strip())
+        # a lane whose batch was refused is a failed hall, which is over
+        if place.holds("is-failed", "--quiet", f"hall@{move.old}"):
+            place.control("reset-failed", f"hall@{move.old}")
 
     def keepers(self) -> None:
         """Copies, the day's timer and numbers go with the next book. The last copy of the old one
@@ -66,15 +69,20 @@ class Afterwards:
             self.hand_on(unit, first=unit.startswith("hall-backup@"))
 
     def hand_on(self, unit: str, first: bool = False) -> None:
-        """A unit of the old book that is enabled is one of the next; `first` it is run once
-        more."""
-        old, new = unit.format(self.move.old), unit.format(self.move.new)
-        if not self.place.is_unit(old):
-            return
+        """A unit of the old book that is enabled is one of the next; `first` it is run once more.
+        The old one ends before the next begins, which may have the same port: so it is noted, for
+        a run behind a kill."""
+        move, place = self.move, self.place
+        old, new = unit.format(move.old), unit.format(move.new)
+        units = move.known.get("units", [])
+        if old not in units:
+            if not place.is_unit(old):
+                return
+            move.keep(units=[*units, old])
         if first:
-            self.place.control("start", old.removesuffix(".timer"))
-        self.place.control("enable", "--now", new)
-        self.place.control("disable", "--now", old)
+            place.control("start", old.removesuffix(".timer"))
+        place.control("disable", "--now", old)
+        place.control("enable", "--now", new)
 
     @property
     def archived(self) -> str:

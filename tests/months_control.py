@@ -123,6 +123,8 @@ def ask(verb: str, now: bool, unit: str) -> None:
         file.write(f"{verb} {unit}\n")
     if verb == "is-enabled":
         sys.exit(not os.path.exists(enabled))
+    if verb == "is-failed":
+        sys.exit(1)
     if verb == "is-active":
         sys.exit(not is_active(unit))
     if verb == "enable":

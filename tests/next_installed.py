@@ -165,7 +165,8 @@ def state(debian: Debian, unit: str) -> tuple[str, str]:
 def check_units(debian: Debian, old: str, new: str) -> None:
     for unit in UNITS:
         need(state(debian, unit.format(old))[0] == "disabled", f"{unit.format(old)} is enabled")
-        need(state(debian, unit.format(old))[1] == "inactive", f"{unit.format(old)} is active")
+        found = state(debian, unit.format(old))
+        need(found[1] == "inactive", f"{unit.format(old)} is {found}")
         found = state(debian, unit.format(new))
         need(found == ("enabled", "active"), f"{unit.format(new)} is {found}")
     for unit in (f"hall-list@{new}", "hall-lane@two", "hall-archive"):
@@ -267,6 +268,10 @@ def one_more(debian: Debian, served: Served, old: str, new: str, kills: int) -> 
                  for _ in range(kills))  # fmt: skip
     said = debian.run(f"hall-next {old} {new} 2>&1", 0)
     need(f"{old} is followed by {new}" in said, said)
+    steps = ", ".join(re.findall(r"hall-next: (\w+: [0-9.]+ s)", said))
+    stood = re.findall(r"lanes stood for [0-9.]+ s", said)
+    need(stood, said)
+    print(f"archive_package: {new} by systemd, {stood[0]}; {steps}", flush=True)
     check_units(debian, old, new)
     check_new(debian, served, old, new)
     check_old(debian, old)
@@ -280,11 +285,7 @@ def handed_over(debian: Debian, served: Served, book: str) -> str:
     check_day(debian, served, book)
     said = debian.run(f"hall-next {book} 2>&1", 1)
     need("2 batches of" in said and served.rows("anna", ADDRESS), f"open batches: {said}")
-    said = one_more(debian, served, book, NEXT[0], 0)
-    steps = ", ".join(re.findall(r"hall-next: (\w+: [0-9.]+ s)", said))
-    stood = re.findall(r"lanes stood for [0-9.]+ s", said)
-    need(stood, said)
-    print(f"archive_package: the next book by systemd, {stood[0]}; {steps}", flush=True)
+    one_more(debian, served, book, NEXT[0], 0)
     said = one_more(debian, served, NEXT[0], NEXT[1], 2)
     exposed = check_exposure(debian, NEXT[1])
     print(f"archive_package: the next but one with {said.split(';')[0]}; day {exposed}", flush=True)

@@ -40,6 +40,7 @@ class Machine(Place):
         super().__init__({"BOOKS": folder, "SETTINGS": folder, "USERS": "no", "LIB": "/lib"})
         self.active: set[str] = set()
         self.enabled: set[str] = set()
+        self.failed: set[str] = set()
         self.asked: list[str] = []
         self.lists: list[str] = [DAY]
         self.doors: list[str] = []
@@ -49,7 +50,8 @@ class Machine(Place):
         self.fails = ""
 
     def holds(self, *words: str) -> bool:
-        return words[-1] in (self.active if words[0] == "is-active" else self.enabled)
+        known = {"is-active": self.active, "is-enabled": self.enabled, "is-failed": self.failed}
+        return words[-1] in known[words[0]]
 
     def control(self, *words: str) -> str:
         said = " ".join(words)
@@ -59,6 +61,8 @@ class Machine(Place):
         if words[0] in ("start", "stop"):
             for unit in words[1:]:
                 (self.active.add if words[0] == "start" else self.active.discard)(unit)
+        elif words[0] == "reset-failed":
+            self.failed.discard(words[1])
         elif words[0] in ("enable", "disable"):
             (self.enabled.add if words[0] == "enable" else self.enabled.discard)(words[-1])
         return ""
@@ -308,6 +312,20 @@ class Moves(unittest.TestCase):
         self.assertTrue(steps.is_done())
         self.assertIn("hall-day@a-2.timer", self.place.enabled)
         self.assertNotIn("hall-day@a.timer", self.place.enabled)
+
+    def test_units_end_before_those_of_the_next_begin(self) -> None:
+        self.hand_over()
+        self.place.enabled.add("hall-metrics@a.service")
+        self.place.failed, self.place.asked = {"hall@a"}, []
+        self.place.fails = "enable --now hall-metrics@a-2"
+        with redirect_stdout(io.StringIO()), patch("sys.stderr", io.StringIO()):
+            with self.assertRaises(Failed):
+                Afterwards(self.move).run()
+            self.assertNotIn("hall-metrics@a.service", self.place.enabled)
+            self.place.fails, self.move = "", self.decided()
+            Afterwards(self.move).run()
+        self.assertIn("hall-metrics@a-2.service", self.place.enabled)
+        self.assertEqual(self.place.failed, set())
 
     def test_settings_stay_as_secret_as_they_were(self) -> None:
         path = f"{self.folder}/archive.toml"
