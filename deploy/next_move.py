@@ -130,6 +130,6 @@ class Waiting:
             next_book.setting(env, key, most) for key, most in (("PORT", 8471), ("DOORS", 2))
         )
         for port in range(first, first + count):
-            if said := self.move.place.ask(port):
+            if said := self.move.place.ask(port, "/summary"):
                 return next_book.open_in(said)
         return None

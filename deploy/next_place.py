@@ -102,8 +102,14 @@ class Place:
         self.beside = ran.stderr
         return ran.stdout
 
-    def as_user(self, user: str, words: list[str]) -> list[str]:
-        return ["runuser", "-u", user, "--", *words] if self.has_users else words
+    def as_user(self, user: str, words: list[str], group: str = "") -> list[str]:
+        more = ["-g", user, "-G", group] if group else []
+        return ["runuser", "-u", user, *more, "--", *words] if self.has_users else words
+
+    def journal(self, said: str) -> None:
+        """Has lines in the journal, where they leave the machine with it."""
+        if self.has_users:
+            self.run(["logger", "--tag", "hall-next"], given=said)
 
     def control(self, *words: str) -> str:
         return self.run([*self.systemctl, *words])
@@ -134,18 +140,17 @@ class Place:
     def seen(self, path: str) -> str:
         return self.of_served("list", path)
 
-    def ask(self, port: int) -> str:
-        """The summary that a door says; the walls let the group hall-doors ask. Empty without an
-        answer."""
+    def ask(self, port: int, path: str) -> str | None:
+        """What a door says; the walls let the group hall-doors ask. None without an answer."""
         link = http.client.HTTPConnection("127.0.0.1", port, timeout=PATIENCE)
         try:
             if self.has_users:
                 os.setegid(grp.getgrnam("hall-doors").gr_gid)
-            link.request("GET", "/summary", headers={"Connection": "close"})
+            link.request("GET", path, headers={"Connection": "close"})
             answer = link.getresponse()
-            return answer.read().decode("ascii") if answer.status == 200 else ""
+            return answer.read().decode("ascii") if answer.status == 200 else None
         except (OSError, KeyError, http.client.HTTPException):
-            return ""
+            return None
         finally:
             os.setegid(os.getgid())
             link.close()

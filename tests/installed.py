@@ -33,6 +33,7 @@ PLACES = """
     /usr/share/doc/hall/examples/papers/released.txt /usr/share/doc/hall/docs/screen_board.png
     /usr/sbin/hall-next /usr/lib/hall/next_book.py /usr/lib/hall/next_move.py
     /usr/lib/hall/next_hand_over.py /usr/lib/hall/next_after.py /usr/lib/hall/next_place.py
+    /usr/lib/hall/next_list.py
     /usr/lib/hall/day /usr/lib/hall/standby /lib/systemd/system/hall-day@.timer
     /lib/systemd/system/hall-day@.service /lib/systemd/system/hall-standby@.service
 """.split()

@@ -105,11 +105,22 @@ def chain(program: str, folder: str, books: int, seed: str, database: str) -> st
         for name in names:
             status, said = known.ask("take", name)
             need(status == 0, f"take {name}: {said}")
+            witnessed(halls, known, name)
         packs = compare_reports(halls, known, names)
         kept = keep(halls, known, chance)
         return f"{books} books, {halls.kills} kills, {packs} packs; {kept}"
     finally:
         halls.end()
+
+
+def witnessed(halls: Halls, known: Archive, name: str) -> None:
+    """The last line of a witness is of all rows of the book, with its fingerprint."""
+    status, said = known.ask("verify", name)
+    need(status == 0, f"verify {name}: {said}")
+    with open(f"{halls.folder}/main.{name}.witness", encoding="ascii") as file:
+        last = file.read().splitlines()[-1].split(" ")
+    audited = halls.hall("audit", "--book", halls.path(name)).split()
+    need(last[1] == audited[1] and last[-1] == audited[-1], f"{name}: {last} for {audited}")
 
 
 def texts(halls: Halls, name: str) -> tuple[str, str]:

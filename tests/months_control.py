@@ -3,8 +3,8 @@
 files of a folder; hall@NAME is begun and ended by deploy/start and deploy/stop, hall-archive-
 follow@NAME is the archive's follower. All else is only noted.
 
-usage: months_control.py VERB [--now] [--quiet] UNIT     with ROOM, the folder, in the
-       environment"""
+usage: months_control.py VERB [--now] [--quiet] [--no-reload] UNIT..     with ROOM, the folder, in
+       the environment"""
 
 import os
 import signal
@@ -117,15 +117,14 @@ def stop(unit: str) -> None:
         end(unit)
 
 
-def main() -> None:
-    verb, *words = [word for word in sys.argv[1:] if word != "--quiet"]
-    now, unit = "--now" in words, words[-1]
+def ask(verb: str, now: bool, unit: str) -> None:
     enabled = f"{ROOM}/units/{unit}.enabled"
-    os.makedirs(f"{ROOM}/units", exist_ok=True)
     with open(f"{ROOM}/asked", "a", encoding="ascii") as file:
         file.write(f"{verb} {unit}\n")
     if verb == "is-enabled":
         sys.exit(not os.path.exists(enabled))
+    if verb == "is-failed":
+        sys.exit(1)
     if verb == "is-active":
         sys.exit(not is_active(unit))
     if verb == "enable":
@@ -136,6 +135,13 @@ def main() -> None:
         start(unit)
     if verb == "stop" or (verb == "disable" and now):
         stop(unit)
+
+
+def main() -> None:
+    words = [word for word in sys.argv[1:] if word not in ("--quiet", "--no-reload", "--now")]
+    os.makedirs(f"{ROOM}/units", exist_ok=True)
+    for unit in words[1:]:
+        ask(words[0], "--now" in sys.argv, unit)
 
 
 main()

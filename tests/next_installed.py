@@ -3,6 +3,7 @@ its front, a changing lane, the list, numbers, copies, the day's timer, the arch
 witness, and a second machine by ssh; it refuses, is killed, and run again. Run by
 archive_installed.py, where the first book is followed by the archive."""
 
+import json
 import random
 import re
 import subprocess
@@ -51,6 +52,8 @@ said = "/run/hall/NAME/standby.txt"
 # Reads what the gates of a book are told, as one who stands there.
 GATES = 'while :; do cat "$0" >/dev/null; sleep 0.1; done'
 KILLED_WITHIN = 3.0
+# Seconds from a device's connection to its first line.
+JOINED = 2
 
 
 def put(debian: Debian, path: str, text: str, name: str) -> None:
@@ -59,8 +62,10 @@ def put(debian: Debian, path: str, text: str, name: str) -> None:
 
 
 def say(debian: Debian, port: int, line: str) -> None:
-    """A device says a line to the adapter."""
-    debian.run(f"bash -c \"printf '{line}\\r\\n' > /dev/tcp/127.0.0.1/{port}\"", 0)
+    """A device says a line to the adapter, a moment after it was joined: what comes at once is
+    taken for an old weight."""
+    said = f"printf '{line}\\r\\n' >&3"
+    debian.run(f'bash -c "exec 3>/dev/tcp/127.0.0.1/{port}; sleep {JOINED}; {said}; sleep 1"', 0)
 
 
 # ---- what there is to hand over
@@ -160,7 +165,8 @@ def state(debian: Debian, unit: str) -> tuple[str, str]:
 def check_units(debian: Debian, old: str, new: str) -> None:
     for unit in UNITS:
         need(state(debian, unit.format(old))[0] == "disabled", f"{unit.format(old)} is enabled")
-        need(state(debian, unit.format(old))[1] == "inactive", f"{unit.format(old)} is active")
+        found = state(debian, unit.format(old))
+        need(found[1] == "inactive", f"{unit.format(old)} is {found}")
         found = state(debian, unit.format(new))
         need(found == ("enabled", "active"), f"{unit.format(new)} is {found}")
     for unit in (f"hall-list@{new}", "hall-lane@two", "hall-archive"):
@@ -190,6 +196,10 @@ def check_old(debian: Debian, old: str) -> None:
     need(register == export, f"the archive's register of {old} is another")
     witness = debian.run(f"{asked} verify {old} 2>&1", 0)
     need("fingerprints hold" in witness, witness)
+    last = debian.run(f"tail -n 1 /var/lib/hall-archive/main.{old}.witness", 0).split()
+    need(last[1] == str(rows) and last[-1] == audited.split()[-1], f"the last line is {last}")
+    said = debian.run(f"journalctl -o cat -t hall-next -t hall-archive | grep -c '{last[2]}'")
+    need(int(said) > 0, "the journal lacks the last line")
     need(debian.run(f"cat /etc/hall/{old}.next", 0).count('"archive"') == 1, "not noted")
 
 
@@ -204,6 +214,9 @@ def check_new(debian: Debian, served: Served, old: str, new: str) -> None:
     numbers(debian, new)
     books = served.text("anna", ADDRESS, "/archive/books")
     need(old in books and new in books, f"the archive has {books}")
+    closings = json.loads(served.text("anna", ADDRESS, f"/archive/acts?book={old}&kind=close"))
+    persons = {one["person"] for one in closings}
+    need(len(closings) > 1 and persons == {"anna"}, f"closings are by {persons}")
     debian.wait("the second machine has the next", lambda: copied(debian, new) > 4)
     page = "/etc/hall/two.lane.toml"
     need(f"/run/hall-{new}/" in debian.run(f"cat {page}", 0), "the lane leads to the old book")
@@ -255,6 +268,10 @@ def one_more(debian: Debian, served: Served, old: str, new: str, kills: int) -> 
                  for _ in range(kills))  # fmt: skip
     said = debian.run(f"hall-next {old} {new} 2>&1", 0)
     need(f"{old} is followed by {new}" in said, said)
+    steps = ", ".join(re.findall(r"hall-next: (\w+: [0-9.]+ s)", said))
+    stood = re.findall(r"lanes stood for [0-9.]+ s", said)
+    need(stood, said)
+    print(f"archive_package: {new} by systemd, {stood[0]}; {steps}", flush=True)
     check_units(debian, old, new)
     check_new(debian, served, old, new)
     check_old(debian, old)
@@ -268,10 +285,7 @@ def handed_over(debian: Debian, served: Served, book: str) -> str:
     check_day(debian, served, book)
     said = debian.run(f"hall-next {book} 2>&1", 1)
     need("2 batches of" in said and served.rows("anna", ADDRESS), f"open batches: {said}")
-    said = one_more(debian, served, book, NEXT[0], 0)
-    stood = re.findall(r"hall-next: (stop|make|settle|show|serve|lead): ([0-9.]+) s", said)
-    lanes = sum(float(seconds) for _, seconds in stood)
-    print(f"archive_package: the next book by systemd, lanes stood {lanes:.1f} s", flush=True)
+    one_more(debian, served, book, NEXT[0], 0)
     said = one_more(debian, served, NEXT[0], NEXT[1], 2)
     exposed = check_exposure(debian, NEXT[1])
     print(f"archive_package: the next but one with {said.split(';')[0]}; day {exposed}", flush=True)

@@ -15,11 +15,18 @@ from hall_archive import checks, nets, stamps, store, witness
 from hall_archive.delivering import Delivery
 from hall_archive.door import Door
 from hall_archive.appending import whole_lines
-from hall_archive.following import COMMIT_ROWS, Follower, Spool
+from hall_archive.following import Follower, Spool
 from hall_archive.months import Months
 from hall_archive.questions import Books
 from hall_archive.reading import Reader, at_rest
-from hall_archive.rows import line_of
+from hall_archive.resting import (
+    first_other,
+    people_tied,
+    refuse,
+    take_rest,
+    witnessed,
+    witnessing_of,
+)
 from hall_archive.service import (
     PEOPLE_EVERY,
     WITNESS_EVERY,
@@ -27,13 +34,12 @@ from hall_archive.service import (
     Following,
     People,
     Said,
-    Witnessing,
 )
 from hall_archive.settings import BadSettings, BookSettings, Settings
 from hall_archive.search import Search
 from hall_archive.store import Store
-from hall_archive.taking import OtherBook, Page, Unkept
-from hall_archive.witness import Witness, utc_text
+from hall_archive.taking import OtherBook, Unkept
+from hall_archive.witness import utc_text
 
 log = logging.getLogger("hall-archive")
 # The status of a follower that ended by a fault of its own: it is begun again.
@@ -121,45 +127,6 @@ def beside(
     months.end()
 
 
-def witnessing_of(
-    settings: Settings, book: BookSettings, kept: Store, reader: Reader
-) -> Witnessing | None:
-    """Keeps the witness of a book; none, and an alarm, where its file isn't chained any more."""
-    path = settings.witness(book)
-    try:
-        return Witnessing(kept, Witness(path), reader)
-    except witness.Differs as fault:
-        kept.alarm(time.time_ns() // 1_000_000, f"{path}: {fault}")
-        log.error("%s: %s: no line is added", path, fault)
-        return None
-
-
-class Rest:
-    """A book at rest as a source of rows, some thousands of lines at a time."""
-
-    is_new = False
-
-    def __init__(self, reader: Reader, book: str, after: int) -> None:
-        asked = reader.ask(book, "acts", str(after) if after else "")
-        self.lines = checks.lines_of(asked)
-        self.after = after
-
-    def ask(self, after: int) -> Page:
-        assert after == self.after
-        lines = list(next_lines(self.lines))
-        self.after += len(lines)
-        # as of a door, an answer of PAGE_ROWS or more has more behind it
-        return Page("".join(lines), self.after)
-
-    def close(self) -> None:
-        pass
-
-
-def next_lines(lines: Iterator[str]) -> Iterator[str]:
-    for _, line in zip(range(COMMIT_ROWS), lines, strict=False):
-        yield line
-
-
 def take(settings: Settings, word: str, _: str) -> int:
     """Takes in what a book at rest has more, and compares it whole."""
     book = book_of(settings, word)
@@ -170,42 +137,12 @@ def take(settings: Settings, word: str, _: str) -> int:
         refuse(kept, why)
     rows = at_rest(reader, lambda: take_rest(kept, reader))
     print(f"rows {rows} taken")
+    people_tied(settings, kept)
+    witnessed(settings, book, kept, reader)
     Months(kept, settings.front).look(now=True)
     if settings.central:
         print(f"rows {Delivery(kept, settings.central).all()} delivered")
     return check(settings, word, "")
-
-
-def take_rest(kept: Store, reader: Reader) -> int:
-    """Takes in what a book at rest has more; how many rows that makes."""
-    follower = Follower(kept.name, Rest(reader, kept.name, kept.cursor().upto), kept)
-    while follower.step()[0]:
-        pass
-    if follower.waiting.upto > follower.waiting.after:
-        follower.keep()
-    return follower.upto
-
-
-def first_other(kept: Store, reader: Reader, upto: int) -> str:
-    """What of the book's first rows isn't as it was taken; nothing where all of it is."""
-    lines = checks.lines_of(reader.ask(kept.name, "acts"))
-    said = compare_rows(map(line_of, kept.entries(upto=upto)), lines, upto)
-    checks.read_out(lines)
-    return said
-
-
-def compare_rows(ours: Iterator[str], lines: Iterator[str], upto: int) -> str:
-    row = 0
-    for row, (one, other) in enumerate(zip(ours, lines, strict=False), 1):
-        if f"{one}\n" != other:
-            return f"has another row {row} than was taken: {other[:80].rstrip()}"
-    return f"has {row} rows, {upto} were taken" if row < upto else ""
-
-
-def refuse(kept: Store, why: str) -> None:
-    said = f"book {kept.name} isn't the one that was followed: it {why}"
-    kept.refuse(said)
-    raise OtherBook(said)
 
 
 # ---- what is read

@@ -4,7 +4,7 @@ fetched for it."""
 from html import escape
 from typing import Any
 
-from hall_archive.report_words import said, sources, spelled
+from hall_archive.report_words import line_name, said, sources, spelled
 
 FACTS = ("readings", "net", "over", "money", "nonstandard", "rejected", "refused")
 LINE: tuple[str, ...] = (
@@ -21,7 +21,7 @@ LINE += ("money", "nonstandard", "rate", "stops", "stopped", "released", "withhe
 CAUSES = ("told_allowance", "told_inadequate", "told_held", "told_full", "stayed")
 # Where the long words of narrow heads may break.
 BREAKS: tuple[str, ...] = ("aus|ge|schleust", "Packun|gen", "ver|schenkt", "Still|stän|de")
-BREAKS += ("frei|ge|ge|ben", "zurück|ge|hal|ten", "ab|ge|lehn|te", "ent|wer|tet", "zäh|len|de")
+BREAKS += ("frei|ge|ge|ben", "zurück|ge|hal|ten", "ab|ge|lehn|te", "ge|stri|chen", "zäh|len|de")
 BREAKS += ("Vor|gän|ge", "Un|ter|maß", "re|jected", "with|held", "re|leased", "re|fused")
 SOFT_HYPHEN = "\u00ad"
 STYLE = """
@@ -33,8 +33,9 @@ body { font: 8.5pt/1.3 "DejaVu Sans", sans-serif; color: #16201f; margin: 0; }
 h1 { font-size: 16pt; margin: 0; string-set: head content(); }
 h2 { font-size: 10.5pt; margin: 5mm 0 1.5mm; }
 .under { color: #55605f; margin: 0 0 3mm; }
-.facts { display: flex; border: 1px solid #b9c0c0; border-radius: 3px; padding: 2mm 3mm; }
-.facts div { flex: 1; }
+.facts { display: flex; gap: 4mm; border: 1px solid #b9c0c0; border-radius: 3px;
+  padding: 2mm 3mm; }
+.facts div { flex: 1 1 auto; }
 .facts dt { color: #55605f; font-size: 7.5pt; }
 .facts dd { margin: 0; font-size: 12pt; font-weight: bold; }
 table { border-collapse: collapse; width: 100%; }
@@ -47,6 +48,10 @@ small { display: block; font-size: 6pt; font-weight: normal; color: #55605f; }
 table.wide { table-layout: fixed; font-size: 7.5pt; }
 table.wide th { font-size: 6pt; overflow-wrap: anywhere; }
 table.wide :is(th, td):first-child { width: 14%; }
+table.wide :is(th, td):is(:nth-child(2), :nth-child(5)) { width: 7%; }
+table.wide :is(th, td):nth-child(3) { width: 5.8%; }
+table.wide :is(th, td):nth-child(10) { width: 7.6%; }
+table.wide td:not(:first-child) { white-space: nowrap; }
 thead { display: table-header-group; }
 tr { break-inside: avoid; }
 tr.sum td { border-top: .4mm solid #6b7675; font-weight: bold; }
@@ -223,7 +228,9 @@ class Words:
     def lines(self) -> str:
         heads = [f"{self.say(self.report['by'])} <small>{self.say('rows')}</small>"]
         heads += [breaking(self.say(name)) for name in LINE]
-        body = [self.line(said(one["name"], self.language), one) for one in self.report["lines"]]
+        found = self.report["lines"]
+        names = [line_name(self.report["by"], one["name"], self.language) for one in found]
+        body = [self.line(name, one) for name, one in zip(names, found, strict=True)]
         body.append(self.line(said("total", self.language), self.report["total"], "sum"))
         head = self.row("th", heads)
         return f"<h2>{self.say('lines')}</h2>{self.table(head, body, 'wide')}"
@@ -247,7 +254,8 @@ class Words:
 
     def batch(self, one: dict[str, Any]) -> str:
         word, *why = one["verdict"].split(" ")
-        verdict = self.say(word) + (f": {escape(', '.join(why))}" if why else "")
+        parts = ", ".join(self.say(f"part {one}") for one in why)
+        verdict = self.say(word) + (f": {parts}" if parts else "")
         book = f"{one['hall']} {one['book']}" if self.halls > 1 else one["book"]
         cells = [escape(one["batch"]), escape(one["product"]), one["day"], escape(book)]
         cells += [self.spell("packs", one["packs"]), self.spell("mean_over", one["over"])]

@@ -23,7 +23,7 @@ WORDS = {
     "passed": ("passed", "gut"),
     "rejected": ("rejected", "ausgeschleust"),
     "sampled": ("sampled", "Stichprobe"),
-    "voided": ("voided", "entwertet"),
+    "voided": ("voided", "gestrichen"),
     "told_held": ("its batch was held", "ihre Charge war gesperrt"),
     "told_full": ("its batch was full", "ihre Charge war voll"),
     "told_inadequate": ("inadequate, below T2", "unzulässig, unter T2"),
@@ -73,6 +73,16 @@ WORDS = {
     ),
     "page": ("page", "Seite"),
     "hour unknown": ("hour unknown", "Stunde unbekannt"),
+    # the parts of a verdict that fail
+    "part contents": ("contents", "Einzelinhalt"),
+    "part mean": ("mean", "Mittelwert"),
+    "part average": ("average", "Durchschnitt"),
+    "part allowance": ("allowance", "1 von 40"),
+    "part inadequate": ("inadequate", "unzulässig"),
+    # shifts of a hall that names none
+    "early": ("early", "früh"),
+    "late": ("late", "spät"),
+    "night": ("night", "Nacht"),
 }
 
 
@@ -80,6 +90,14 @@ def said(key: str, language: str, **values: Any) -> str:
     """A word, with what stands in it; a key without a word is itself."""
     found = WORDS.get(key)
     return found[language == "de"].format(**values) if found else key
+
+
+def line_name(by: str, name: str, language: str) -> str:
+    """The name of a line: a shift's has the day before a word."""
+    day, _, word = name.rpartition(" ")
+    if by != "shift" or not day[:1].isdecimal():
+        return said(name, language)
+    return f"{day} {said(word, language)}"
 
 
 def decimal(value: float, places: int, language: str) -> str:

@@ -115,6 +115,13 @@ class People:
             if one.fault:
                 log.warning("the front has a line of no act: %s", one.fault)
 
+    def look_all(self) -> None:
+        """Reads all that there is, of a book of which no more comes."""
+        place = None
+        while place != self.log.place:
+            place = self.log.place
+            self.look()
+
 
 class Witnessing:
     """Keeps the witness of a book: at the start, at each closing, each minute with new rows, and
@@ -174,6 +181,17 @@ class Witnessing:
         self.held.go_on(self.running, rows)
         said = self.witness.append(moment, self.running.rows, self.running.hex(), audit)
         log.info("witness of %s: %s", self.store.name, said)
+
+    def close(self, moment: int) -> None:
+        """The line of a book at rest, with its fingerprint, unless it is there."""
+        upto = self.store.cursor().upto
+        last = self.witness.lines[-1] if self.witness.lines else None
+        if last and last.audit and last.rows == upto:
+            return
+        self.held.add(self.store.packed(self.held.rows, upto))
+        self.due = upto
+        if audit := self.audit(upto):
+            self.hold(audit, moment)
 
     def audit(self, upto: int) -> checks.Audit | None:
         """The fingerprint of the book's first rows, `upto` at most; None without an answer."""

@@ -5,6 +5,7 @@ import unittest
 from unittest import mock
 
 from hall_archive import report_forms
+from hall_archive.report_words import WORDS, line_name
 
 LACKING = {name: None for name in ("openpyxl", "openpyxl.styles", "openpyxl.utils", "weasyprint")}
 
@@ -23,6 +24,18 @@ class Forms(unittest.TestCase):
         for name, module in kept.items():
             if module is not None:
                 sys.modules[name] = module
+
+    def test_names_of_lines(self) -> None:
+        for by, name, said in (
+            ("shift", "2026-12-01 early", "2026-12-01 fr\u00fch"),
+            ("shift", "2026-12-01 Nord", "2026-12-01 Nord"),
+            ("shift", "hour unknown", "Stunde unbekannt"),
+            ("batch", "2026-12-01 early", "2026-12-01 early"),
+            ("product", "rice250", "rice250"),
+        ):
+            self.assertEqual(line_name(by, name, "de"), said)
+        for part in ("contents", "mean", "average", "allowance", "inadequate"):
+            self.assertIn(f"part {part}", WORDS)
 
 
 if __name__ == "__main__":

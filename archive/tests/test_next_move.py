@@ -23,6 +23,8 @@ from next_place import Failed, Place, read, write  # noqa: E402
 
 DAY = "day 2026-12-01\nproduct rice250 nominal 250.000 g tare 10.000\n"
 OPEN = f"{DAY}batch A product rice250 state drawn population 1\n"
+CLOSED = OPEN.replace("drawn", "closed")
+TARE = DAY.replace("10.000", "11.000")
 SHA = "ab" * 32
 
 
@@ -38,13 +40,18 @@ class Machine(Place):
         super().__init__({"BOOKS": folder, "SETTINGS": folder, "USERS": "no", "LIB": "/lib"})
         self.active: set[str] = set()
         self.enabled: set[str] = set()
+        self.failed: set[str] = set()
         self.asked: list[str] = []
         self.lists: list[str] = [DAY]
         self.doors: list[str] = []
+        # what the doors say behind the rows of the list, and how often the book was read whole
+        self.acts: list[str] = []
+        self.read = 0
         self.fails = ""
 
     def holds(self, *words: str) -> bool:
-        return words[-1] in (self.active if words[0] == "is-active" else self.enabled)
+        known = {"is-active": self.active, "is-enabled": self.enabled, "is-failed": self.failed}
+        return words[-1] in known[words[0]]
 
     def control(self, *words: str) -> str:
         said = " ".join(words)
@@ -52,7 +59,10 @@ class Machine(Place):
         if self.fails and self.fails in said:
             raise Failed(said)
         if words[0] in ("start", "stop"):
-            (self.active.add if words[0] == "start" else self.active.discard)(words[1])
+            for unit in words[1:]:
+                (self.active.add if words[0] == "start" else self.active.discard)(unit)
+        elif words[0] == "reset-failed":
+            self.failed.discard(words[1])
         elif words[0] in ("enable", "disable"):
             (self.enabled.add if words[0] == "enable" else self.enabled.discard)(words[-1])
         return ""
@@ -74,12 +84,14 @@ class Machine(Place):
         return "batch A product rice250 nominal 250.000 g\n" if command == "report" else ""
 
     def listing(self, path: str) -> str:
+        self.read += path.endswith("a.book")
         return self.lists.pop(0) if len(self.lists) > 1 else self.lists[0]
 
     seen = listing
 
-    def ask(self, port: int) -> str:
-        return self.doors.pop(0) if self.doors else ""
+    def ask(self, port: int, path: str) -> str | None:
+        said = self.acts if path.startswith("/acts/") else self.doors
+        return said.pop(0) if said else None
 
 
 class Moves(unittest.TestCase):
@@ -105,11 +117,16 @@ class Moves(unittest.TestCase):
         return os.path.exists(f"{self.folder}/{name}")
 
     def hand_over(self) -> None:
-        closed = OPEN.replace("drawn", "closed")
-        # as lanes are looked at, of the old book, of the next one
-        self.place.lists = self.lists or [closed, closed, DAY]
+        # of the old book before its hall ends, of the next one, of the old one at rest, and again
+        # of the next one
+        self.place.lists = self.lists or [CLOSED, DAY, CLOSED, DAY]
+        self.go_on()
+
+    def go_on(self) -> None:
+        steps = HandOver(self.move)
         with redirect_stdout(io.StringIO()):
-            HandOver(self.move).run()
+            steps.recover()
+            steps.run()
 
     def test_another_book_or_its_plan_that_is_there(self) -> None:
         self.assertEqual(self.move.new, "a-2")
@@ -138,10 +155,101 @@ class Moves(unittest.TestCase):
             self.hand_over()
         self.place.fails, self.place.asked = "", []
         self.move = self.decided()
-        with redirect_stdout(io.StringIO()):
-            HandOver(self.move).run()
+        self.go_on()
         self.assertNotIn("stop hall@a", self.place.asked)
         self.assertIn("hall@a-2", self.place.active)
+        # nobody writes the old one, from before the next one was begun
+        self.assertEqual(self.mode("a.book"), 0o440)
+
+    def mode(self, name: str) -> int:
+        return stat.S_IMODE(os.stat(f"{self.folder}/{name}").st_mode)
+
+    def test_what_is_carried_may_change_until_the_hall_ends(self) -> None:
+        self.lists = [OPEN, DAY, TARE, DAY, TARE]
+        self.hand_over()
+        self.assertIn("tare rice250 2026-12-01 11.000\n", read(f"{self.folder}/a-2.book"))
+        self.assertFalse(self.there("a-2.book.new"))
+
+    def ended(self, rows: int) -> None:
+        """The old hall ended in good order with so many rows, of one byte each in its snapshot."""
+        tail = b"\0T" + rows.to_bytes(4, "little") + rows.to_bytes(8, "little")
+        with open(f"{self.folder}/a.book", "wb") as file:
+            file.write(b"AQHBOOK2\1".ljust(96 * (rows + 4), b"\0") + tail.ljust(96, b"\0"))
+
+    def test_what_doors_say_is_all_of_the_list(self) -> None:
+        self.lists = [f"{OPEN}rows 5 left 9\n", DAY, TARE]
+        tare = "tare rice250 2026-12-01 11.000"
+        self.place.acts = ["6 released\tdoor 1\t@101 3 close A\n", f"7 ok\tdoor 1\t@101 4 {tare}\n"]
+        self.ended(7)
+        self.hand_over()
+        self.assertEqual(self.place.read, 1)
+        self.assertEqual(self.move.known["carried"], TARE.splitlines())
+
+    def test_a_row_more_than_doors_said(self) -> None:
+        said: list[tuple[int, list[str]]] = [(8, [""]), (7, [])]
+        for rows, more in said:
+            with self.subTest(rows=rows):
+                self.setUp()
+                self.lists = [f"{CLOSED}rows 5 left 9\n", DAY, CLOSED, DAY]
+                self.place.acts = ["6 ok\tscript\tday 2026-12-01\n", *more]
+                self.ended(rows)
+                self.hand_over()
+                self.assertEqual(self.place.read, 2)
+                self.assertTrue(self.move.known["carried"])
+
+    def test_one_that_is_opened_before_the_hall_ends(self) -> None:
+        self.lists = [f"{CLOSED}rows 5 left 9\n", DAY]
+        self.place.acts = ["", "6 ok\tdoor 1\t@101 3 open B rice250\n"]
+        with self.assertRaisesRegex(StillOpen, "1 batches of a have no verdict: B"):
+            self.hand_over()
+        self.assertNotIn("stop hall@a", self.place.asked)
+        HandOver(self.move).take_back()
+        self.assertEqual(self.place.active, {"hall@a", "hall-archive-follow@a"})
+
+    def test_another_list_than_was_carried_is_told(self) -> None:
+        self.hand_over()
+        self.place.lists = [TARE]
+        with redirect_stdout(io.StringIO()), patch("sys.stderr", io.StringIO()) as said:
+            with self.assertRaisesRegex(Failed, "isn't done: audit"):
+                Afterwards(self.move).run()
+        self.assertIn("was begun with another day, product or tare", said.getvalue())
+
+    def test_a_hall_that_was_begun_again_meanwhile(self) -> None:
+        self.fails_as_the_front_is_reloaded()
+        # the machine was begun anew, and the old hall with it
+        self.place.active = {"hall@a", "nginx"}
+        self.move = self.decided()
+        self.lists, self.place.asked = [CLOSED.replace("10.000", "11.000"), TARE], []
+        self.hand_over()
+        self.assertIn("stop hall@a", self.place.asked)
+        self.assertIn("tare rice250 2026-12-01 11.000\n", read(f"{self.folder}/a-2.book"))
+        self.assertEqual(self.place.active, {"hall@a-2", "nginx"})
+
+    def test_killed_as_it_forgets(self) -> None:
+        self.fails_as_the_front_is_reloaded()
+        with patch("os.remove", side_effect=KeyboardInterrupt), self.assertRaises(
+            KeyboardInterrupt
+        ):
+            HandOver(self.move).take_back()
+        self.move = self.decided()
+        self.hand_over()
+        self.assertEqual(self.place.active, {"hall@a-2", "nginx"})
+
+    def test_a_plan_of_other_lanes_than_its_settings(self) -> None:
+        write(f"{self.folder}/a.env", "LANES=2\n")
+        with self.assertRaisesRegex(Failed, "has 1 lanes, and LANES is 2"):
+            self.hand_over()
+        self.assertEqual(self.place.active, {"hall@a", "hall-archive-follow@a"})
+        HandOver(self.move).take_back()
+        self.assertFalse(self.there("a-2.env"))
+
+    def test_lines_are_begun_again_at_once(self) -> None:
+        for name in ("one.lane", "two.line"):
+            write(f"{self.folder}/{name}.toml", 'cell = "/run/hall-a/cell-1.txt"\n')
+        write(f"{self.folder}/other.lane.toml", 'cell = "/run/hall-b/cell-1.txt"\n')
+        self.hand_over()
+        self.assertEqual(self.place.asked[-1], "try-restart hall-lane@one hall-line@two")
+        self.assertIn("/run/hall-a-2/", read(f"{self.folder}/one.lane.toml"))
 
     def test_what_lanes_weigh_is_asked_before_anything_is_stopped(self) -> None:
         self.lists = [DAY]
@@ -149,13 +257,12 @@ class Moves(unittest.TestCase):
             self.hand_over()
         self.assertEqual(self.place.active, {"hall@a", "hall-archive-follow@a"})
         self.move.known["plan"] = f"{self.folder}/a.toml"
-        with redirect_stdout(io.StringIO()):
-            HandOver(self.move).run()
+        self.go_on()
         self.assertEqual(read(f"{self.folder}/a-2.toml"), "reserve = 4\n")
 
     def test_a_batch_by_volume_is_opened_at_its_density(self) -> None:
         oil = DAY.replace("rice250", "oil").replace(" g tare", " ml tare")
-        self.lists = [f"{oil}batch A product oil state closed population 1\n", oil, oil]
+        self.lists = [f"{oil}batch A product oil state closed population 1\n", oil]
         self.hand_over()
         self.assertIn("@164 1 open A oil 912.500\n", read(f"{self.folder}/a-2.toml"))
 
@@ -171,7 +278,7 @@ class Moves(unittest.TestCase):
         self.fails_as_the_front_is_reloaded()
         HandOver(self.move).take_back()
         self.assertEqual(self.place.active, {"hall@a", "hall-archive-follow@a", "nginx"})
-        for name in ("a-2.book", "a-2.env", "a-2.toml"):
+        for name in ("a-2.book", "a-2.book.new", "a-2.env", "a-2.toml"):
             self.assertFalse(self.there(name), name)
         self.assertEqual(Move(self.place, "a").done(), [])
 
@@ -180,6 +287,7 @@ class Moves(unittest.TestCase):
         self.place.fails = "start hall@a"
         with self.assertRaises(Failed):
             HandOver(self.move).take_back()
+        self.assertFalse(self.there("a-2.env"))
         # the hall has ended, and what ran before is known all the same
         self.place.fails = ""
         self.move = self.decided()
@@ -204,6 +312,20 @@ class Moves(unittest.TestCase):
         self.assertTrue(steps.is_done())
         self.assertIn("hall-day@a-2.timer", self.place.enabled)
         self.assertNotIn("hall-day@a.timer", self.place.enabled)
+
+    def test_units_end_before_those_of_the_next_begin(self) -> None:
+        self.hand_over()
+        self.place.enabled.add("hall-metrics@a.service")
+        self.place.failed, self.place.asked = {"hall@a"}, []
+        self.place.fails = "enable --now hall-metrics@a-2"
+        with redirect_stdout(io.StringIO()), patch("sys.stderr", io.StringIO()):
+            with self.assertRaises(Failed):
+                Afterwards(self.move).run()
+            self.assertNotIn("hall-metrics@a.service", self.place.enabled)
+            self.place.fails, self.move = "", self.decided()
+            Afterwards(self.move).run()
+        self.assertIn("hall-metrics@a-2.service", self.place.enabled)
+        self.assertEqual(self.place.failed, set())
 
     def test_settings_stay_as_secret_as_they_were(self) -> None:
         path = f"{self.folder}/archive.toml"
