@@ -81,8 +81,8 @@ class Afterwards:
             move.keep(units=[*units, old])
         if first:
             place.control("start", old.removesuffix(".timer"))
-        place.control("disable", "--now", old)
-        place.control("enable", "--now", new)
+        place.control("disable", "--now", "--no-reload", old)
+        place.control("enable", "--now", "--no-reload", new)
 
     @property
     def archived(self) -> str:

@@ -129,6 +129,12 @@ def setting(env: str, key: str, otherwise: int) -> int:
     return int(found[-1]) if found else otherwise
 
 
+def doors_of(env: str) -> range:
+    """The front's doors of a hall: each other one is held by who asks there."""
+    first = setting(env, "PORT", 8471)
+    return range(first, first + setting(env, "DOORS", 2))
+
+
 def lanes_of(planned: str) -> list[Lane]:
     """The lanes of a plan, as `planned` prints them."""
     found = [line.split(" ") for line in planned.splitlines()]

@@ -20,7 +20,7 @@ class Carried:
 
     def __init__(self, place: Place, path: str, env: str) -> None:
         self.place, self.path = place, path
-        self.ports = ports_of(env)
+        self.ports = next_book.doors_of(env)
         self.told = InForce.read(place.seen(path), next_book.setting(env, "LIMIT", 1_000_000))
         self.is_clear = True
 
@@ -56,16 +56,6 @@ class Carried:
     def is_whole(self) -> bool:
         """Whether the hall ended in good order, with as many rows as are known."""
         return self.is_clear and rows_left(self.path) == self.told.rows
-
-
-def ports_of(env: str) -> list[int]:
-    """The doors of a hall, those first that nobody has once what follows the book has ended: behind
-    the front's and the list's."""
-    first, count, own = (
-        next_book.setting(env, key, most)
-        for key, most in (("PORT", 8471), ("DOORS", 2), ("OWN_DOORS", 0))
-    )
-    return [*range(first + count + 1, first + count + own), *range(first, first + count)]
 
 
 def rows_left(path: str) -> int | None:

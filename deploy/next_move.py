@@ -126,10 +126,7 @@ class Waiting:
     def at_doors(self) -> int | None:
         """How many batches have no verdict, as a door of the hall says; None where none answers."""
         env = read(self.move.setting(self.move.old, "env"))
-        first, count = (
-            next_book.setting(env, key, most) for key, most in (("PORT", 8471), ("DOORS", 2))
-        )
-        for port in range(first, first + count):
+        for port in next_book.doors_of(env):
             if said := self.move.place.ask(port, "/summary"):
                 return next_book.open_in(said)
         return None

@@ -3,6 +3,7 @@
 usage: months.py PROGRAM FOLDER BOOKS SEED [PART..]"""
 
 import csv
+import glob
 import io
 import json
 import os
@@ -227,8 +228,14 @@ def look(known: Archive, pdf: bytes) -> None:
         with open(f"{known.halls.folder}/{page}", "rb") as file:
             body = file.read()
         need(body.count(b"\0"[0:1]) + sum(one < 128 for one in body[20:]) > 200, f"{page} is blank")
+    pictured([path])
+
+
+def pictured(paths: list[str]) -> None:
+    """What a person is to look at."""
     if folder := os.environ.get("PICTURES"):
-        shutil.copy(path, folder)
+        for path in paths:
+            shutil.copy(path, folder)
 
 
 # ---- a month that is kept
@@ -242,6 +249,7 @@ def keep(halls: Halls, known: Archive, chance: random.Random) -> str:
     checked = subprocess.run(["sha256sum", "--quiet", "-c", "DIGESTS"], cwd=folder, check=False)
     need(checked.returncode == 0, "sha256sum differs")
     papers(halls, folder)
+    pictured(glob.glob(f"{folder}/**/*.pdf", recursive=True))
     need(known.ask("keep", MONTH, "--into", f"{halls.folder}/kept")[0] == 1, "kept twice")
     for spoil in (cut, change, remove, add, forge):
         copy = f"{halls.folder}/spoiled"

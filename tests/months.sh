@@ -6,7 +6,7 @@
 # cut off for an hour, the database killed meanwhile; a second PostgreSQL answers the same reports.
 #
 # usage: tests/months.sh [BOOKS [SEED [PART..]]]   30 books and the parts sqlite, postgresql, halls
-#        if they aren't named; HALL names the program; PICTURES, a folder, gets the PDF
+#        if they aren't named; HALL names the program; PICTURES, a folder, gets the PDFs
 # needs: root, and of Debian what is named below; what is missing is installed. Done in 10 minutes,
 #        at most 30; systemd's part is a stand-in (tests/months_control.py).
 set -eu

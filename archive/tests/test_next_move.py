@@ -317,7 +317,7 @@ class Moves(unittest.TestCase):
         self.hand_over()
         self.place.enabled.add("hall-metrics@a.service")
         self.place.failed, self.place.asked = {"hall@a"}, []
-        self.place.fails = "enable --now hall-metrics@a-2"
+        self.place.fails = "enable --now --no-reload hall-metrics@a-2"
         with redirect_stdout(io.StringIO()), patch("sys.stderr", io.StringIO()):
             with self.assertRaises(Failed):
                 Afterwards(self.move).run()
