@@ -22,7 +22,9 @@ from selenium.webdriver.common.keys import Keys
 from clients import need
 from front_room import NAME, wait_until
 
-PATIENCE = 30
+# Seconds that something is waited for: a machine may be busy with other things. How soon it comes is
+# judged elsewhere.
+PATIENCE = 120
 # How often Chromium is begun until it answers.
 TRIES = 4
 

@@ -105,6 +105,9 @@ def on_a_sheet(place):
     said = place.anna.wait_text(".sh-evidence", "Tare of a product, P")
     need("Check of a scale, 1" in said and "other" not in said, f"the sheet: {said}")
     need("Who and when" in said and "opened" in said, f"the sheet: {said}")
+    # the tare of before, and the one that was entered
+    need("Tares of the product as they were set" in said and "on: 10.000 g" in said
+         and ", anna: evidence" in said, f"the sheet: {said}")
 
 
 def closed(place):

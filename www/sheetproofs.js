@@ -1,10 +1,12 @@
 // What the archive adds to a sheet: the newest evidence on the goods and the scales, who did what
-// with the batch, and when, and the fingerprint of the book at its closing.
+// with the batch, and when, the tares of its goods as they were set, and the fingerprint of the book
+// at its closing.
 
 import { CODE, addWords, say } from "./words.js";
 import { actsOf, askArchive } from "./archived.js";
-import { count } from "./numbers.js";
+import { count, day as spellDate, grams } from "./numbers.js";
 import { make } from "./page.js";
+import { readMass } from "./grams.js";
 import { spellDay } from "./evidencekinds.js";
 
 addWords((await import(`./sheetproofs_${CODE}.js`)).default);
@@ -40,6 +42,26 @@ function actLines(acts) {
   return [...own.map(actLine), ...measuredLines(of("measure")), ...of("close").map(actLine)];
 }
 
+// The tares of a product that a book was given up to its last row that is shown, oldest first; of
+// many the newest.
+const MOST_TARES = 8;
+async function taresSet({ product, rows }, book) {
+  const all = [];
+  for (let page = null; page?.length !== 0; all.push(...page)) {
+    const words = { book, product, kind: "tare", after: all.at(-1)?.row ?? 0 };
+    page = await askArchive(`acts?${new URLSearchParams(words)}`) ?? [];
+  }
+  return all.filter(({ row }) => row <= rows).slice(-MOST_TARES);
+}
+
+// A tare by the words of its act, which end with the day and the grams.
+function tareLine(act) {
+  const [day, tare] = act.line.split(" ").slice(-2);
+  const why = act.reason ? `: ${act.reason}` : "";
+  return line(say("tareSet", { day: spellDate(day), tare: grams(readMass(tare)) }),
+    `${hourOf(act)}, ${personOf(act)}${why}`);
+}
+
 // The fingerprint of the rows up to the closing, as the witness has it; nothing as long as it
 // hasn't.
 async function fingerprintOf(acts) {
@@ -59,7 +81,9 @@ const part = (name, lines, none) => make("div", {}, make("h3", {}, say(name)), l
 // All of it for a batch whose packs begin at a row, beside the newest evidence of each.
 export async function proofsOf(sheet, newest, firstPack) {
   const acts = await actsOf(sheet, firstPack);
+  const tares = acts.length ? await taresSet(sheet, acts[0].book) : [];
   return make("section", { className: "sh-evidence" },
     part("proofs", newest.filter(isOf(sheet)).map(proofLine), "noProofs"),
-    part("whoWhen", actLines(acts), "noActs"), await fingerprintOf(acts));
+    part("whoWhen", actLines(acts), "noActs"),
+    tares.length ? part("taresSet", tares.map(tareLine)) : [], await fingerprintOf(acts));
 }

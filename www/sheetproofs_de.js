@@ -15,5 +15,7 @@ export default {
   fingerprintOf: "Fingerabdruck der Zeilen 1 bis {rows} des Buchs {book}",
   fingerprintHow:
     "Genommen {utc}. hall audit --book {book}.book --rows {rows} muss dasselbe sagen.",
+  taresSet: "Taren der Ware, wie sie gesetzt wurden",
+  tareSet: "ab {day}: {tare} g",
   didMeasure: "{count} Packungen nachgewogen",
 };

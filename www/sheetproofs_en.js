@@ -14,5 +14,7 @@ export default {
   "did.close": "closed",
   fingerprintOf: "Fingerprint of rows 1 to {rows} of book {book}",
   fingerprintHow: "Taken {utc}. hall audit --book {book}.book --rows {rows} has to say the same.",
+  taresSet: "Tares of the product as they were set",
+  tareSet: "from {day} on: {tare} g",
   didMeasure: "{count} packs measured",
 };
