@@ -17,7 +17,7 @@ from rows import Piles, Row, rows_behind
 
 TOP = os.path.dirname(os.path.dirname(os.path.abspath(__file__)))
 ADAPTER = os.path.join(TOP, "adapters", "hall-adapter")
-SETUP = "@164 1 day 2025-03-03\n@164 2 product P 250\n@164 3 tare P 2025-03-03 10\n"
+SETUP = "@164 1 day 2025-03-03\n@164 2 product P {}\n@164 3 tare P 2025-03-03 10\n"
 FIRST_DOOR = 8471
 FIRST_LANE = 9001
 FIRST_METRICS = 9471
@@ -38,7 +38,7 @@ def wait_until(holds: Callable[[], object], said: str, seconds: float = PATIENCE
 class Room:
     """A folder with a book, and a hall over it that may be killed and started again."""
 
-    def __init__(self, program: str, folder: str, lanes: int) -> None:
+    def __init__(self, program: str, folder: str, lanes: int, nominal: int = 250) -> None:
         os.makedirs(folder)
         self.program = program
         self.folder = folder
@@ -46,7 +46,7 @@ class Room:
         self.book = f"{folder}/book"
         batches = [f"B{lane}" for lane in range(1, lanes + 1)]
         opened = "".join(f"@164 {at} open {name} P\n" for at, name in enumerate(batches, 4))
-        self.plan = plan(SETUP + opened, batches)
+        self.plan = plan(SETUP.format(nominal) + opened, batches)
         self.hall: Hall | None = None
 
     def start(self) -> Hall:

@@ -84,7 +84,7 @@ GOOD: dict[str, float] = {
 }
 KINDS = ("escaped", "wrong", "gate", "skip", "unheard", "repeat")
 GOOD |= {f'hall_line_faults_total{{{LINE},kind="{kind}"}}': 0 for kind in KINDS}
-WHYS = ("form", "check", "long", "cut", "motion")
+WHYS = ("form", "check", "long", "cut", "unit", "motion")
 GOOD |= {f'hall_line_unweighed_total{{{LINE},why="{why}"}}': 0 for why in WHYS}
 DOORS = [name for name in GOOD if name.startswith("hall_door_connections")]
 # Which numbers raise which alarm, and which raise none.
@@ -130,7 +130,7 @@ GROWN: list[tuple[str, dict[str, float]]] = [
     ("HallRejectUnconfirmed", {f'hall_line_faults_total{{{LINE},kind="wrong"}}': 1}),
     ("HallGateFails", {f'hall_line_faults_total{{{LINE},kind="gate"}}': 1}),
     ("HallPacksUnweighed", {f'hall_line_faults_total{{{LINE},kind="unheard"}}': 7}),
-    ("HallLinesUnknown", {f'hall_line_unweighed_total{{{LINE},why="check"}}': 7}),
+    ("HallLinesUnknown", {f'hall_line_unweighed_total{{{LINE},why="unit"}}': 7}),
     (
         "HallAnswersSlowly",
         {

@@ -10,6 +10,7 @@ ADAPTERS = os.path.join(os.path.dirname(os.path.dirname(os.path.abspath(__file__
 sys.path[:0] = [ADAPTERS, os.path.join(ADAPTERS, "tests")]
 
 from adapter_modbus import check_modbus
+from adapter_pages import check_pages
 from adapter_reject import check_escaped, check_wrong
 from adapter_room import Room, say
 from adapter_rules import check_rules
@@ -34,6 +35,7 @@ CHECKS = {
     "kills": check_kills,
     "again": check_again,
     "recorded": check_recorded,
+    "pages": check_pages,
     "wrong": check_wrong,
     "escaped": check_escaped,
     "rules": check_rules,

@@ -5,7 +5,7 @@ usage: hall-adapter COMMAND ..
   devices                            the tables of devices, and which published form each follows
   weights DEVICE [--unit U]          a device's lines to weights a line, from standard input
   check MAP FILE                     what a recorded stream would give, for who commissions a line
-  record MAP                         takes registers down, a poll a line, for `check`
+  record MAP                         takes a device's bytes or registers down, for `check`
   send PORT [--book URL ..]          sends weights to a lane's port, each until it is acknowledged
   line SETTINGS                      joins a line to a lane of a hall, as a service
   lane SETTINGS                      joins scale, scanner and pages to a lane that changes its batch
@@ -44,7 +44,7 @@ def parser() -> argparse.ArgumentParser:
     tried = commands.add_parser("check", help="what a recorded stream would give")
     tried.add_argument("map")
     tried.add_argument("file")
-    recorded = commands.add_parser("record", help="takes registers down, for `check`")
+    recorded = commands.add_parser("record", help="takes a device down, for `check`")
     recorded.add_argument("map")
     add_words(commands.add_parser("send", help="sends weights to a lane's port"))
     joined = commands.add_parser("line", help="joins a line to a lane of a hall")

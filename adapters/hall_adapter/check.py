@@ -1,8 +1,8 @@
 """hall-adapter check MAP FILE
 
 Says what a recorded stream of a device would give, line by line, for who commissions a line. MAP is
-the table of a device by its name or its path, and FILE what the device sent (as `cat /dev/ttyUSB0 >
-FILE` takes it down); or MAP is a map for Modbus, and FILE what `hall-adapter record MAP` took down.
+the table of a device by its name or its path, a map for Modbus, or the settings of a line, which
+name one; FILE is what `hall-adapter record` took down.
 
 The last line has the counts; where there is no weight at all, the last but one says what to look
 at. Status 0: there are weights, and no line is unknown to the table. 1: a line is unknown, was cut
@@ -14,6 +14,7 @@ from hall_adapter.devices import find, load
 from hall_adapter.lines import Engine, describe
 from hall_adapter.readings import Note, Reading
 from hall_adapter.register_maps import is_map, load_map, recorded
+from hall_adapter.settings import is_settings, load_settings
 
 # Kinds of notes that say that the table isn't the device's, or the line is bad.
 FAULTS = {"form", "check", "long", "cut"}
@@ -69,9 +70,13 @@ def check_registers(name: str, stream: bytes) -> tuple[list[str], bool]:
 
 
 def check(name: str, stream: bytes) -> tuple[list[str], bool]:
-    """What a recorded stream would give by a table or a map."""
-    of_registers = is_map(find(name)[1])
-    return check_registers(name, stream) if of_registers else check_lines(name, stream)
+    """What a recorded stream would give by a table, a map, or the settings that name one."""
+    path, table = find(name)
+    if is_settings(table):
+        settings = load_settings(path)
+        name = settings.device or settings.map
+        table = find(name)[1]
+    return check_registers(name, stream) if is_map(table) else check_lines(name, stream)
 
 
 def run(name: str, path: str) -> int:

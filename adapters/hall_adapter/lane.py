@@ -28,6 +28,7 @@ from hall_adapter.cell_pipe import BadCell, CellPipe, SenderPipe, Sink
 from hall_adapter.devices import load
 from hall_adapter.lane_settings import LaneSettings, load_lane_settings
 from hall_adapter.lines import Engine
+from hall_adapter.presence import Presence
 from hall_adapter.readings import REASONS, Linked, Note, Reading, spell
 from hall_adapter.serial_lines import serial_pieces
 from hall_adapter.settings import Source
@@ -52,24 +53,6 @@ def moment() -> str:
 def pieces_of(source: Source) -> AsyncIterator[bytes | Linked]:
     """What a device says; and where it is there, or isn't."""
     return serial_pieces(source) if source.serial else tcp_pieces(source)
-
-
-class Device:
-    """A device that comes and goes, each of which is told once."""
-
-    def __init__(self, name: str) -> None:
-        self.name = name
-        self.is_there: bool | None = None
-
-    def take(self, linked: Linked) -> None:
-        """It is there, or it isn't."""
-        before, self.is_there = self.is_there, linked.is_there
-        if before is linked.is_there:
-            return
-        if not linked.is_there:
-            tell(f"the {self.name} is away ({linked.why})")
-        elif before is False:
-            tell(f"the {self.name} is there again")
 
 
 class Scans:
@@ -198,7 +181,7 @@ class ChangingLane:
 
     async def hear_scale(self) -> None:
         """Hears the scale."""
-        device = Device("scale")
+        device = Presence("scale", tell)
         async for piece in pieces_of(self.settings.scale):
             if not isinstance(piece, Linked):
                 self.take(self.engine.feed(piece))
@@ -211,7 +194,7 @@ class ChangingLane:
 
     async def hear_scanner(self, scanner: Source) -> None:
         """Hears the scanner."""
-        device = Device("scanner")
+        device = Presence("scanner", tell)
         async for piece in pieces_of(scanner):
             if not isinstance(piece, Linked):
                 self.take_scans(self.scans.feed(piece))

@@ -179,7 +179,8 @@ class Line:
             self.act(self.lane.hall_gone())
         if self.is_hall_there is not False:
             self.is_hall_there = False
-            self.report(Note("hall", "the lane's port isn't there, or left the connection"))
+            text = f"port {self.settings.port} isn't there, or left the connection"
+            self.report(Note("hall", f"lane {self.settings.lane}: {text}"))
 
     def acknowledged(self, number: int) -> None:
         """The hall has taken so many weights."""

@@ -348,6 +348,11 @@ def need_programs(path: str, settings: Settings) -> None:
         need(is_here, f"{path}: [{part}]: {''.join(words[:1])} is no program here")
 
 
+def is_settings(table: Table) -> bool:
+    """Whether a table has the settings of a line."""
+    return "hall" in table
+
+
 def load_settings(path: str) -> Settings:
     """The settings at a path."""
     table = read_table(path)

@@ -4,6 +4,7 @@ A connection that broke off is made again. Of devices that connect to this the n
 since one that was cut off without a word connects anew."""
 
 import asyncio
+import os
 import socket
 from collections.abc import AsyncIterator
 
@@ -38,6 +39,11 @@ async def read_on(reader: asyncio.StreamReader) -> AsyncIterator[bytes]:
         yield piece
 
 
+def why_of(error: OSError) -> str:
+    """Why there is no connection, as the system says it."""
+    return os.strerror(error.errno) if error.errno and error.errno > 0 else str(error)
+
+
 async def connected(source: Source) -> AsyncIterator[bytes | Linked]:
     """What a device says to which this connects; and where a connection is made, can't be, or broke
     off."""
@@ -46,7 +52,7 @@ async def connected(source: Source) -> AsyncIterator[bytes | Linked]:
         try:
             reader, writer = await asyncio.open_connection(host, port)
         except OSError as error:
-            yield Linked(False, f"{source.tcp}: {error.strerror or error}")
+            yield Linked(False, f"{source.tcp}: {why_of(error)}")
             await asyncio.sleep(RETRY)
             continue
         keep_alive(writer.get_extra_info("socket"))

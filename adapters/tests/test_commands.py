@@ -1,5 +1,5 @@
 """Each command stands in the usage, in the man page and in docs/LINES.md, and none that isn't one; each
-number for Prometheus is one that something gives."""
+number for Prometheus is one that something gives, and each alarm stands in docs/LINES.md."""
 
 import argparse
 import glob
@@ -40,6 +40,15 @@ class Commands(unittest.TestCase):
         self.assertEqual(set(re.findall(r"^\.Cm (\w+)$", manual, re.MULTILINE)), commands())
         said = re.findall(r"^\| `hall-adapter (\w+)", page, re.MULTILINE)
         self.assertEqual(set(said), commands())
+
+
+class Alarms(unittest.TestCase):
+    """The alarms for Prometheus."""
+
+    def test_what_to_do_about_each(self) -> None:
+        rules = re.findall(r"- alert: (\w+)", text_of("deploy/prometheus-rules.yml"))
+        page = text_of("docs/LINES.md").split("What each alarm of the rules asks for:")[1]
+        self.assertEqual(sorted(re.findall(r"`(Hall\w+)`", page)), sorted(rules))
 
 
 class Numbers(unittest.TestCase):
