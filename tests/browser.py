@@ -14,7 +14,8 @@ import time
 from urllib.parse import quote
 
 from selenium import webdriver
-from selenium.common.exceptions import SessionNotCreatedException
+from selenium.common.exceptions import (SessionNotCreatedException,
+                                        StaleElementReferenceException)
 from selenium.webdriver.chrome.service import Service
 from selenium.webdriver.common.by import By
 from selenium.webdriver.common.keys import Keys
@@ -125,10 +126,14 @@ class Browser:
         return self.driver.execute_script(script, *words)
 
     def find(self, selector):
-        """The first element that is shown under this selector."""
+        """The first element that is shown under this selector. One that the page has drawn anew
+        meanwhile is looked for again."""
         def shown():
             found = self.driver.find_elements(By.CSS_SELECTOR, selector)
-            return next((one for one in found if one.is_displayed()), None)
+            try:
+                return next((one for one in found if one.is_displayed()), None)
+            except StaleElementReferenceException:
+                return None
         return wait_until(shown, f"{selector} on {self.driver.title}", PATIENCE)
 
     def text(self, selector):
