@@ -216,8 +216,7 @@ def check_new(debian: Debian, served: Served, old: str, new: str) -> None:
     need(old in books and new in books, f"the archive has {books}")
     closings = json.loads(served.text("anna", ADDRESS, f"/archive/acts?book={old}&kind=close"))
     persons = {one["person"] for one in closings}
-    front = debian.run("grep close /var/log/nginx/hall-acts.log; ls -l /var/log/nginx")
-    need(len(closings) > 1 and persons == {"anna"}, f"closings are {closings}; {front}")
+    need(len(closings) > 1 and persons == {"anna"}, f"closings are {closings}")
     debian.wait("the second machine has the next", lambda: copied(debian, new) > 4)
     page = "/etc/hall/two.lane.toml"
     need(f"/run/hall-{new}/" in debian.run(f"cat {page}", 0), "the lane leads to the old book")
