@@ -11,6 +11,7 @@ import sys
 import time
 from typing import Any
 
+import sqlalchemy
 from archive_hall import ARCHIVE_PORT, RATE, Known, Work, now
 from archive_room import Postgres, Room, wait
 from archive_spoiled import spoiled
@@ -25,7 +26,7 @@ from archive_hall import PEOPLE  # noqa: E402
 
 import archive_questions  # noqa: E402
 
-from hall_archive import store  # noqa: E402
+from hall_archive import schema, store  # noqa: E402
 from hall_archive.keeping import BLOCK  # noqa: E402
 from hall_archive.questions import Books  # noqa: E402
 from hall_archive.search import Search  # noqa: E402
@@ -325,7 +326,17 @@ def furnish(
     )
     done = room.ask("migrate")
     need(done == (0, ""), f"the tables are made: {done}")
+    check_indexes(database)
     return room, work, Checked(room, work, database)
+
+
+def check_indexes(database: str) -> None:
+    """Each index that the questions rest on is there, by whatever steps the tables came about."""
+    link = sqlalchemy.inspect(store.open_engine(database))
+    for table in schema.metadata.sorted_tables:
+        there = {one["name"] for one in link.get_indexes(table.name)}
+        lacks = {one.name for one in table.indexes} - there
+        need(not lacks, f"{table.name} lacks {lacks}")
 
 
 def end(room: Room, work: Work) -> None:

@@ -74,7 +74,7 @@ class Served:
     def curl(self, name: str, address: str, path: str, *more: str) -> str:
         return (
             f"{CURL} -u '{name}:{self.passwords[name]}' -w '\\n%{{http_code}}'"
-            f" {' '.join(more)} https://{address}{path}"
+            f" {' '.join(more)} 'https://{address}{path}'"
         )
 
     def ask(self, name: str, address: str, path: str, *more: str) -> tuple[int, str]:
