@@ -176,12 +176,12 @@ def overdue(place):
     place.anna.open("board")
     place.anna.reload()
     began = time.monotonic()
-    place.anna.wait_text("ol.alarms", "Check of a scale, 2: older than 1 days", 90)
+    place.anna.wait_text("ol.alarms", "Check of a scale, 2: overdue (limit 1 d)", 90)
     took = time.monotonic() - began
     place.kept.alarm(now(), "batch R1: the archive says 'a', the book 'b'")
     place.anna.wait_text("ol.alarms", "day: archive and book differ. batch R1", 90)
     place.anna.open("evidence")
-    place.anna.wait_text("#evidence [role=status]", "older than 1 days")
+    place.anna.wait_text("#evidence [role=status]", "overdue (limit 1 d)")
     return took
 
 

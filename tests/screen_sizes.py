@@ -86,9 +86,10 @@ LOADED = [
 ]
 
 
-def check_size(browser):
+def check_size(browser, language):
     """Each page loads itself alone, from here alone, and is small, also with what is opened on
     it."""
+    set_language(browser, language)
     for page, selector, open_mode in LOADED:
         browser.driver.get("about:blank")
         open_page(browser, page, selector)
@@ -102,8 +103,8 @@ def check_size(browser):
             need(all_size <= ALL_BYTES and all_sent <= ALL_SENT and not elsewhere,
                  f"{page} loads {all_size} with what is opened, {all_sent} as sent")
             more = f"; {all_size} with what is opened on it, {all_sent} as sent"
-        print(f"screen: the page {page.split('/')[0]} loads {size} bytes, {sent} as sent{more}",
-              flush=True)
+        print(f"screen: the page {page.split('/')[0]} ({language}) loads {size} bytes, {sent} as"
+              f" sent{more}", flush=True)
 
 
 # A part that has the key's focus, by its id where it has one: a slider's words change as packs
@@ -135,7 +136,8 @@ def check_keyboard(browser):
 def run_sizes(program, folder, pictures):
     room = make_room(program, folder, pictures)
     browser = room.browser("anna", size="1280,800")
-    check_size(browser)
+    for language in ("en", "de"):
+        check_size(browser, language)
     check_keyboard(browser)
     check_stays(browser)
     complaints = browser.complaints()

@@ -185,6 +185,7 @@ def measure_together(day, anna, ben):
 
 def second_and_verdict(day, anna):
     """A close that is refused; the second sample, measured; the verdict; a tare that is frozen."""
+    anna.find(".m-leave").send_keys(Keys.ESCAPE)
     anna.told(anna.act("close", batch="MORNING", twice=True), "Draw the second sample")
     anna.told(anna.act("second", batch="MORNING"), "Done")
     begin_measuring(anna)

@@ -7,7 +7,8 @@ import { FIELDS, KINDS, readEntry, soFar } from "./entered.js";
 import { deskChoice } from "./mydesk.js";
 import { dueWords } from "./evidenceshown.js";
 import { grams } from "./evidencewords.js";
-import { isReady, makeSaid, sendAct, tell } from "./acts.js";
+import { addListed } from "./names.js";
+import { isReady, makeSaid, nameLists, sendAct, tell } from "./acts.js";
 import { loadStyles, make, put } from "./page.js";
 import { spellDay } from "./evidencekinds.js";
 import { notice, table, tag } from "./parts.js";
@@ -54,17 +55,17 @@ function foundWords({ kind, body }) {
 
 // The newest of each, what needs a person first: what isn't in order, then what is `due` anew.
 function newestTable(records, due) {
-  if (records.length === 0) return make("p", {}, say("noEvidence"));
+  if (records.length === 0) return [make("h2", {}, say("newest")), say("noEvidence")];
   const isOld = ({ kind, subject }) =>
     due.some((one) => one.why === "old" && one.kind === kind && one.subject === subject);
   const standing = (one) => (one.body.result === "good" && isOld(one) ? "old" : one.body.result);
   const rank = (one) => RANKS.indexOf(standing(one));
   const heads = ["kind", "subject", "when", "who", "result"].map((name) => say(`head.${name}`));
   const sorted = [...records].sort((one, other) => rank(one) - rank(other));
-  return table("", heads, sorted.map((one) => [
+  return [table(say("newest"), heads, sorted.map((one) => [
     [say(`kind.${one.kind}`), make("small", {}, foundWords(one))], one.subject,
     spellDay(one.moment), one.person, tag(...SIGNS[standing(one)], say(`result.${standing(one)}`)),
-  ]));
+  ]))];
 }
 
 // What is typed of a list so far, so that a wrong value is seen at once.
@@ -148,21 +149,21 @@ function choice(forms) {
 
 async function draw(section) {
   await loadStyles("tables.css", "forms.css", "evidence.css");
+  await addListed();
   const [newest, due] = [make("div", { className: "scroll" }), make("div", { role: "status" })];
   const show = async () => {
     const records = (await ask("newest")).said.filter(isProof);
     const { evidence, books } = (await ask("alarms")).said;
-    newest.replaceChildren(newestTable(records, evidence));
+    newest.replaceChildren(...newestTable(records, evidence));
     const said = [...evidence.map(dueWords), ...books.map(({ book, what }) => `${book}: ${what}`)];
     due.replaceChildren(...(said.length ? [notice("alarm", "warn", say("overdue"),
       make("ul", {}, said.map((text) => make("li", {}, text))))] : []));
   };
   const forms = Object.fromEntries(KINDS.map((kind) => [kind, formOf(kind, show)]));
-  const panel = (name, ...more) => make("section", { className: "panel" },
-    make("h2", {}, say(name)), more);
+  const panel = (...parts) => make("section", { className: "panel" }, parts);
   section.append(make("h1", {}, say("evidence")), due, make("div", { className: "evidence" },
-    panel("enterEvidence", deskChoice("e-desk"), choice(forms), Object.values(forms)),
-    panel("newest", newest)));
+    panel(make("h2", {}, say("enterEvidence")), deskChoice("e-desk"), choice(forms),
+      Object.values(forms)), panel(newest)), ...nameLists());
   await show();
 }
 

@@ -11,8 +11,8 @@ import "./evidencekinds.js";
 const EVERY = 5_000, SELDOM = 600_000, DAY = 86_400_000;
 
 addWords({
-  "due.old": ["{kind}, {subject}: older than {days} days, do it again",
-    "{kind}, {subject}: älter als {days} Tage, neu machen"],
+  "due.old": ["{kind}, {subject}: overdue (limit {days} d), do it again",
+    "{kind}, {subject}: überfällig (Frist {days} d), neu machen"],
   "due.more": ["{kind}, {subject}: weigh 25 empties", "{kind}, {subject}: 25 leere wiegen"],
   "due.bad": ["{kind}, {subject}: not in order", "{kind}, {subject}: nicht in Ordnung"],
   differsFrom: ["{book}: archive and book differ. {what}",

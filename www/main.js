@@ -6,19 +6,10 @@ import { bookOf, following, link, oldBook } from "./office.js";
 import { keepText, readText } from "./store.js";
 import { loadSettings, settings } from "./settings.js";
 
-// What is loaded when a page is first shown.
-const PAGES = new Map(Object.entries({
-  board: () => import("./board.js"),
-  lane: () => import("./lane.js"),
-  batch: () => import("./batch.js"),
-  desk: () => import("./desk.js"),
-  sheet: () => import("./sheet.js"),
-  reports: () => import("./reports.js"),
-  evidence: () => import("./evidence.js"),
-  search: () => import("./search.js"),
-  measure: () => import("./measuring.js"),
-  picks: () => import("./picks.js"),
-}));
+// Each page stands in the file of its name, or of another one, and is loaded when it is first shown.
+const PAGES = ["board", "lane", "batch", "desk", "sheet", "reports", "evidence", "search",
+  "measure", "picks"];
+const FILES = new Map([["measure", "measuring"]]);
 // Pages that are a part of another one, to which the head leads.
 const PART_OF = new Map([["measure", "desk"], ["picks", "desk"]]);
 // The name that a page had before.
@@ -32,13 +23,13 @@ const THEMES = ["light", "dark"];
 function asked() {
   const [name, about] = location.hash.slice(1).split("/");
   const page = FORMER.get(name) ?? name;
-  return { page: PAGES.has(page) ? page : "board", about: about ?? "" };
+  return { page: PAGES.includes(page) ? page : "board", about: about ?? "" };
 }
 
 async function load(name) {
   if (!built.has(name)) {
     const section = make("section", { id: name, "aria-label": say(name) });
-    built.set(name, PAGES.get(name)().then(async (page) => {
+    built.set(name, import(`./${FILES.get(name) ?? name}.js`).then(async (page) => {
       await page.build(section);
       return { page, section };
     }));

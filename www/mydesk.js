@@ -1,28 +1,14 @@
 // Which desk this page acts as: chosen once, kept for the tab and the browser, and held by one page
 // of a browser at a time.
 
-import { addWords, say } from "./words.js";
+import { CODE, addWords, say } from "./words.js";
 import { canKeep, isMine, onChange, take } from "./requests.js";
 import { forgetLost, lost, pending } from "./kept.js";
 import { keepText, readText } from "./store.js";
 import { make, put } from "./page.js";
 import { notice } from "./parts.js";
 
-addWords({
-  myDesk: ["My desk", "Mein Platz"],
-  choose: ["choose", "wählen"],
-  chooseDesk: ["Choose your desk first.", "Zuerst den Platz wählen."],
-  otherPage: ["Another page of this browser has this desk. Go on there, or close it.",
-    "Eine andere Seite dieses Browsers hat diesen Platz. Dort weitermachen oder sie schließen."],
-  lostActs: ["This browser kept acts of desk {desk} that can't be read. Whether they were done "
-    + "isn't known: look at the batches, and do again what is missing.",
-  "Dieser Browser hat Handlungen von Platz {desk} aufgehoben, die nicht lesbar sind. Ob sie getan "
-    + "sind, ist nicht bekannt: die Chargen ansehen und wiederholen, was fehlt."],
-  lostText: ["Kept was: {text}", "Aufgehoben war: {text}"],
-  looked: ["I have looked", "Angesehen"],
-  noRoom: ["This browser keeps nothing for the page, or the link isn't https: acts can't be sent.",
-    "Der Browser behält nichts für die Seite, oder es ist kein https: nichts wird gesendet."],
-});
+addWords((await import(`./mydesk_${CODE}.js`)).default);
 
 const DESKS = [101, 164];
 const KEPT = "hall.desk";

@@ -1,21 +1,8 @@
-// What became of an act, as a sentence. The sentences of refusals are loaded when one is shown.
+// What became of an act, as a sentence. The sentences of refusals are loaded when one is shown;
+// the other words are those of all who act as a desk.
 
-import { addWords, say, word } from "./words.js";
-
-addWords({
-  done: ["Done: row {row}.", "Getan: Zeile {row}."],
-  doubt: ["Another page works at this desk, at request {kept}. Whether this act was done isn't " +
-    "known: look at the batch, and do it again only if it is missing.",
-  "An diesem Platz arbeitet eine andere Seite, bei Auftrag {kept}. Ob dies getan wurde, ist " +
-    "nicht bekannt: die Charge ansehen und nur wiederholen, was fehlt."],
-  notYours: ["This desk isn't yours: choose your own, or ask whoever runs the hall.",
-    "Dieser Platz gehört Ihnen nicht: den eigenen wählen oder die Betreuung fragen."],
-  broken: ["The office didn't take this as an act ({word}). Nothing was done. Load the page anew.",
-    "Das Büro nimmt dies nicht an ({word}). Nichts wurde getan. Die Seite neu laden."],
-  verdict: ["Verdict", "Urteil"],
-  refusedBy: ["The book refused this act ({number}). Load the page anew to read why.",
-    "Das Buch hat dies abgelehnt ({number}). Die Seite neu laden, um zu lesen, warum."],
-});
+import "./mydesk.js";
+import { say, word } from "./words.js";
 
 async function refusalWords(number, kept) {
   const refusals = await import("./refusals.js").catch(() => null);

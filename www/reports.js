@@ -121,7 +121,7 @@ function batchPanel(report) {
     verdictTag(one.verdict), one.book]);
   return make("section", { className: "panel scroll" },
     table(say("verdictList", { closed: count(report.closed) }) + some,
-      heads.map((name) => say(name)), rows, ["", "", "keep", "right", "right", "", "keep"]));
+      heads.map((name) => say(name)), rows, ["", "goods", "keep", "right", "right", "", "keep"]));
 }
 
 function refusedPanel({ refused }) {

@@ -51,7 +51,7 @@ function batchTable(batches, halls) {
     one.verdict ? verdictTag(one.verdict) : tag("calm", "dot", say(one.state)), one.book]);
   const title = say(batches.length < MOST ? "s.found" : "s.most", { count: count(batches.length) });
   return make("section", { className: "panel scroll" }, table(title,
-    heads.map((name) => say(name)), rows, ["", "", "keep", "right", "right", "", "keep"]));
+    heads.map((name) => say(name)), rows, ["", "goods", "keep", "right", "right", "", "keep"]));
 }
 
 function packTable(packs, halls) {
@@ -59,7 +59,7 @@ function packTable(packs, halls) {
   const rows = packs.map((one) => [one.book, batchLink(one, halls), one.product, day(one.day),
     count(one.lane), grams(one.gross), signalTag(one.signal)]);
   return make("section", { className: "panel scroll" }, table(say("s.packs"),
-    heads.map((name) => say(name)), rows, ["keep", "", "", "keep", "right", "right", ""]));
+    heads.map((name) => say(name)), rows, ["keep", "", "goods", "keep", "right", "right", ""]));
 }
 
 async function find(form, place, halls) {

@@ -1,6 +1,6 @@
 // What the archive adds to a sheet: the newest evidence on the goods and the scales, who did what
-// with the batch, and when, the tares of its goods as they were set, and the fingerprint of the book
-// at its closing.
+// with the batch, and when, the tares of its goods as they were set, and the fingerprint of the
+// book at its closing.
 
 import { CODE, addWords, say } from "./words.js";
 import { actsOf, askArchive } from "./archived.js";

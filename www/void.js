@@ -2,27 +2,14 @@
 // keeps that the pack is voided; the reason goes with the act, and the archive keeps it with the
 // person.
 
-import { addWords, say } from "./words.js";
+import { CODE, addWords, say } from "./words.js";
 import { count, grams } from "./numbers.js";
 import { deskChoice, lacks, myDesk, onDesk } from "./mydesk.js";
 import { give, outcome } from "./requests.js";
 import { loadStyles, make, put } from "./page.js";
 import { outcomeWords } from "./outcomes.js";
 
-addWords({
-  voidTitle: ["Void pack {pack}?", "Packung {pack} streichen?"],
-  voidHint: ["{net} g, passed. It then no longer counts, and stays in the book as voided. Why?",
-    "{net} g, durchgelassen. Sie zählt dann nicht mehr und bleibt als gestrichen im Buch. Warum?"],
-  voidKept: ["The book has the void; the reason is kept by the archive, with your name.",
-    "Das Buch hat die Streichung; den Grund hält das Archiv fest, mit Ihrem Namen."],
-  torn: ["The bag is torn", "Der Beutel ist gerissen"],
-  twice: ["It was weighed twice", "Sie wurde doppelt gewogen"],
-  label: ["Wrong label or date", "Falsches Etikett oder Datum"],
-  other: ["Another reason", "Ein anderer Grund"],
-  doVoid: ["Void the pack", "Packung streichen"],
-  back: ["Back", "Zurück"],
-  underWay: ["Under way ..", "Unterwegs .."],
-});
+addWords((await import(`./void_${CODE}.js`)).default);
 
 const REASONS = ["torn", "twice", "label", "other"];
 
