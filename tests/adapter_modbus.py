@@ -16,9 +16,11 @@ MODBUS_PORT = 5020
 PERIOD_OF_FAULTS = 5
 FAULTS = ["skip", "motion", "away"]
 GOOD = 262_000
+# An answer is waited for as long as a machine may take on which much else runs.
 MAP = """
 [modbus]
 {way}
+timeout = 5
 [weight]
 register = 0
 scale = 0.1

@@ -107,7 +107,7 @@ def way_of(page: Page, folder: str) -> tuple[str, SerialLine | TcpDevice]:
         (r"^within = .*", "within = 30.0"),
         (r"^earliest = .*", "earliest = 0.001"),
         (r"^latest = .*", "latest = 30.0"),
-        (r"^listen = \"127.*\"", f'listen = "127.0.0.1:{FIRST_METRICS}"'),
+        (r"^\[metrics\]\nlisten = .*", f'[metrics]\nlisten = "127.0.0.1:{FIRST_METRICS}"'),
     ):
         settings, count = re.subn(pattern, text, settings, flags=re.MULTILINE)
         need(count > 0, f"{page.name} has no {pattern}")
@@ -148,7 +148,8 @@ def check_page(program: str, folder: str, page: Page, pins: Pins) -> None:
         del os.environ[word]
     if isinstance(way, TcpDevice):
         way.plug()
-    wait_until(lambda: line.metric("hall_line_device_linked") == 1, f"{page.name} is there")
+    linked = "hall_line_device_linked"
+    wait_until(lambda: line.metric(linked) == 1, lambda: f"{page.name} is there: {line.said()}")
     # what comes with a connection is taken to be old
     time.sleep(SETTLED)
     weighed = weigh(line, page, way, pins)
@@ -202,12 +203,16 @@ def weigh(
         way.send(stream_of(one))
         wait_until(lambda: heard(line) > before, f"{page.name}: {one!r} is heard")
     judged = 'hall_line_packs_total{.*signal="(?:pass|reject)"'
-    wait_until(lambda: heard(line, judged) == len(wanted), f"{page.name}: {line.said()[-5:]}")
+    wait_until(
+        lambda: heard(line, judged) == len(wanted), lambda: f"{page.name}: {line.said()[-9:]}"
+    )
     # of those that gave no weight some are on the belt too, and go by
     for _ in range(rejects):
         pins.pass_by()
     confirmed = "hall_line_rejects_confirmed_total"
-    wait_until(lambda: line.metric(confirmed) == rejects, f"{page.name}: {line.said()[-5:]}")
+    wait_until(
+        lambda: line.metric(confirmed) == rejects, lambda: f"{page.name}: {line.said()[-9:]}"
+    )
     passed = len(wanted) - rejects
     wait_until(lambda: pins.opened() == opened + passed, f"{page.name}: the gate's pin")
     need(line.metric("hall_line_stopped") == 0, f"{page.name} stopped: {line.said()}")

@@ -9,6 +9,9 @@ from clients import need
 from drawn import garvens
 
 GOOD, LIGHT = 262_000, 230_000
+# Seconds in which a pack is behind the reject, and its gate may open: on a machine where much else
+# runs a program may stand still for some.
+LATEST, WITHIN = 12.0, 30.0
 
 
 def last_stop(room: Room) -> str | None:
@@ -25,7 +28,7 @@ def check_wrong(program: str, folder: str, packs: int, seed: str) -> None:
     device = ModbusDevice("tcp", str(MODBUS_PORT))
     device.put()
     desk = '[desk]\nurl = "http://127.0.0.1:8471"\nnumber = 163\n'
-    more = f"within = 10.0\n[reject]\nearliest = 0.01\nlatest = 4.0\n{desk}"
+    more = f"within = {WITHIN}\n[reject]\nearliest = 0.01\nlatest = {LATEST}\n{desk}"
     line = modbus_line(room, f'tcp = "127.0.0.1:{MODBUS_PORT}"', more)
     wait_until(lambda: line.metric("hall_line_device_linked") == 1, "the device is there")
     device.pack(LIGHT)
@@ -35,7 +38,7 @@ def check_wrong(program: str, folder: str, packs: int, seed: str) -> None:
     wait_until(lambda: line.metric("hall_line_rejects_confirmed_total") == 1, "it is confirmed")
     need(line.metric("hall_line_stopped") == 0, f"the gate is stopped: {line.said()}")
     # the pack before it isn't due any more, so that this one is taken for nothing else
-    time.sleep(4.2)
+    time.sleep(LATEST + 0.2)
     device.pack(GOOD)
     wait_until(lambda: len(device.opened()) == 1, "a pack is let out")
     device.rejected()
@@ -71,7 +74,8 @@ def check_escaped(program: str, folder: str, packs: int, seed: str) -> None:
     os.mkfifo(pulses)
     photocell = os.open(pulses, os.O_RDWR)
     more = (
-        f'within = 10.0\n[reject]\nearliest = 0.01\nlatest = 2.0\npulses = ["cat", "{pulses}"]\n'
+        f"within = {WITHIN}\n[reject]\nearliest = 0.01\nlatest = {LATEST}\n"
+        f'pulses = ["cat", "{pulses}"]\n'
         f'[alarm]\ncommand = ["sh", "-c", "cat >>{mails}"]\nevery = 600\n'
     )
     line, way = open_line(room, "serial", "garvens", 1, more)
@@ -80,7 +84,8 @@ def check_escaped(program: str, folder: str, packs: int, seed: str) -> None:
         wait_until(lambda: line.metric("hall_line_packs_total", "reject") == counter, "a reject")
         os.write(photocell, b"edge\n")
         wait_until(
-            lambda: line.metric("hall_line_rejects_confirmed_total") == counter, "it is confirmed"
+            lambda: line.metric("hall_line_rejects_confirmed_total") == counter,
+            lambda: f"reject {counter} is confirmed: {line.said()}, {line.notes()}",
         )
     way.send(garvens(3, LIGHT))
     wait_until(lambda: line.metric("hall_line_stopped") == 1, "the gate is stopped")

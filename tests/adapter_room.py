@@ -26,12 +26,15 @@ FIRST_DEVICE = 7000
 PATIENCE = 180.0
 
 
-def wait_until(holds: Callable[[], object], said: str, seconds: float = PATIENCE) -> None:
-    """Waits until something holds; it has to in so many seconds."""
+def wait_until(
+    holds: Callable[[], object], said: str | Callable[[], str], seconds: float = PATIENCE
+) -> None:
+    """Waits until something holds; it has to in so many seconds. What is said else is a text, or
+    what makes one then."""
     end = time.monotonic() + seconds
     while not holds():
         if time.monotonic() > end:
-            raise Wrong(f"not within {seconds} s: {said}")
+            raise Wrong(f"not within {seconds} s: {said if isinstance(said, str) else said()}")
         time.sleep(0.02)
 
 

@@ -117,7 +117,7 @@ def check_watched(program: str, folder: str, packs: int, seed: str) -> None:
     prometheus = Prometheus(room.folder, [METRICS, FIRST_METRICS], RULES)
     check_numbers(broker, prometheus, way)
     check_advice(broker, f"{room.folder}/advice")
-    check_broker_away(broker, way)
+    check_broker_away(broker, line, way)
     check_stopped(broker, prometheus, line, way)
     line.end()
     topic = "hall/garvens-serial/online"
@@ -187,14 +187,14 @@ def check_advice(broker: Broker, path: str) -> None:
         need(said.read().split() == expected, "the filler's file has the same advice")
 
 
-def check_broker_away(broker: Broker, way: SerialLine | TcpDevice) -> None:
-    """A broker that is away: packs are weighed, and their messages wait."""
+def check_broker_away(broker: Broker, line: Line, way: SerialLine | TcpDevice) -> None:
+    """A broker that is away is told once: packs are weighed, and their messages wait."""
     topic = "hall/garvens-serial/pack"
     broker.end()
     broker.reader.kill()
     broker.reader.wait()
     way.send(garvens(PACKS + 1, GOOD))
-    time.sleep(1)
+    wait_until(lambda: mqtt_told(line) == ["the broker is away"], "a broker that is away is told")
     os.remove(broker.taken)
     broker.process = broker.begin()
     broker.reader = broker.subscribe()
@@ -202,6 +202,13 @@ def check_broker_away(broker: Broker, way: SerialLine | TcpDevice) -> None:
     wait_until(lambda: len(broker.messages(topic)) >= 1, "messages come again")
     last = json.loads(broker.messages(topic)[-1])
     need(last["counter"] in (PACKS + 1, PACKS + 2), f"the message is {last}")
+    there = "the broker is there again, and 0 messages were dropped"
+    need(mqtt_told(line) == ["the broker is away", there], f"it told {mqtt_told(line)}")
+
+
+def mqtt_told(line: Line) -> list[str]:
+    """What a line told of its broker."""
+    return [said[6:] for said in line.said() if said.startswith("mqtt: ")]
 
 
 def check_stopped(

@@ -7,6 +7,8 @@ the last time is read."""
 import os
 
 SLOT = 96
+# What a book begins with.
+MAGIC = b"AQHBOOK2"
 WEIGHING = 6
 PIECE = 10_000
 # Places in a row.
@@ -34,6 +36,8 @@ class BookRows:
             if self.file != (about.st_dev, about.st_ino):
                 self.begin()
                 self.file = (about.st_dev, about.st_ino)
+            if not MAGIC.startswith(book.read(len(MAGIC))):
+                raise ValueError(f"{self.path} is no book")
             book.seek(SLOT * (self.rows + 1))
             while slots := whole_slots(book.read(SLOT * PIECE), self.rows):
                 self.take(slots[:-1])

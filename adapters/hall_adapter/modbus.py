@@ -15,9 +15,8 @@ from typing import Any
 from hall_adapter.register_maps import Link, RegisterMap
 from hall_adapter.tables import BadTable, address_of
 
-# Seconds until a link is tried again, and for how long an answer is waited for.
+# Seconds until a link is tried again.
 RETRY = 0.5
-PATIENCE = 1.0
 WORD = 65_536
 PACKAGES = "Debian's packages python3-pymodbus, python3-serial and python3-serial-asyncio"
 
@@ -47,7 +46,7 @@ def client_of(link: Link) -> Any:
         from pymodbus.client import ModbusSerialClient, ModbusTcpClient  # type: ignore[import]
     except ImportError:
         raise BadTable(f"a map needs {PACKAGES}") from None
-    ways = {"timeout": PATIENCE, "retries": 0}
+    ways = {"timeout": link.timeout, "retries": 0}
     if link.tcp:
         host, port = address_of(link.tcp)
         return ModbusTcpClient(host, port, **ways)

@@ -1,7 +1,8 @@
 """Maps for Modbus: which registers hold weight and strobe, which coil is the gate. In TOML.
 
     [modbus]  tcp = "HOST:PORT", or serial = "/dev/ttyUSB0" with baud, parity and stop;
-              unit (the device's address, 1), table ("input" or "holding"), period (0.005 s)
+              unit (the device's address, 1), table ("input" or "holding"), period (0.005 s
+              between two polls), timeout (1: whole seconds for which an answer is waited for)
     [weight]  register, type (int16, uint16, int32, uint32 or float32), order ("big": the high
               word first, or "little"), unit ("g"), scale (0.1: how much of the unit a step is)
     [strobe]  register: a number of 16 bits that rises by one with each pack, from first (0) to
@@ -47,8 +48,8 @@ TYPES["float32"] = (2, "f")
 # One request reads no more registers than this.
 MOST_WORDS = 100
 WORD = 65_536
-# The greatest address of a device, and the greatest scale.
-MOST_UNIT, MOST_SCALE = 255, 1_000_000.0
+# The greatest address of a device, scale, and time for an answer.
+MOST_UNIT, MOST_SCALE, MOST_TIMEOUT = 255, 1_000_000.0, 60
 # What a line of a recording says where the link broke off.
 CUT = "cut"
 
@@ -65,6 +66,7 @@ class Link:
     unit: int
     table: str
     period: float
+    timeout: int
 
 
 @dataclass(frozen=True)
@@ -113,7 +115,8 @@ class RegisterMap:
 
 def link_of(table: Table) -> Link:
     """How a device is reached."""
-    only(table, {"tcp", "serial", "baud", "parity", "stop", "unit", "table", "period"})
+    keys = {"tcp", "serial", "baud", "parity", "stop", "unit", "table", "period", "timeout"}
+    only(table, keys)
     tcp, serial = text_of(table, "tcp", ""), text_of(table, "serial", "")
     need(bool(tcp) != bool(serial), "`tcp` or `serial` is needed, and not both")
     if tcp:
@@ -127,6 +130,7 @@ def link_of(table: Table) -> Link:
         number_of(table, "unit", 1, 0, MOST_UNIT),
         choice_of(table, "table", "input", ("input", "holding")),
         seconds_of(table, "period", 0.005),
+        number_of(table, "timeout", 1, 1, MOST_TIMEOUT),
     )
 
 

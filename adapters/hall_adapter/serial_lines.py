@@ -4,6 +4,7 @@ Only termios of Python's own library is needed. What the device held when the li
 packs that are gone, and is dropped."""
 
 import asyncio
+import errno
 import os
 import termios
 from collections.abc import AsyncIterator
@@ -14,19 +15,39 @@ from hall_adapter.settings import Source
 # Seconds until a line that isn't there is tried again.
 RETRY = 0.5
 PIECE = 4096
+# What is asked of a line, and has to be so then: a driver may leave it silently.
+KEPT = termios.CSIZE | termios.PARENB | termios.PARODD | termios.CSTOPB
+PARITY = {"N": 0, "E": termios.PARENB, "O": termios.PARENB | termios.PARODD}
+# Majors of pseudo-terminals, which have neither parity nor 7 bits.
+PSEUDO = range(136, 144)
+
+
+def control_of(line: int, source: Source) -> int:
+    """Bits, parity and stop of a line. What comes over a pseudo-terminal came over its own line
+    before, which had these."""
+    control = termios.CREAD | termios.CLOCAL
+    if os.major(os.fstat(line).st_rdev) in PSEUDO:
+        return control | termios.CS8
+    control |= {7: termios.CS7, 8: termios.CS8}[source.bits] | PARITY[source.parity]
+    return control | (termios.CSTOPB if source.stop == 2 else 0)
+
+
+def need_kept(control: int, got: int) -> None:
+    """Raises where a line isn't set as it was asked to be: a spoiled byte would go for a good one."""
+    if (control ^ got) & KEPT:
+        raise OSError(errno.EINVAL, "it can't have these bits, parity and stop")
 
 
 def set_up(line: int, source: Source) -> None:
     """Sets the line: raw, and at its speed. A byte with a wrong parity is dropped by the system, so
     the line that it was of fits no table."""
-    control = {7: termios.CS7, 8: termios.CS8}[source.bits] | termios.CREAD | termios.CLOCAL
-    control |= {"N": 0, "E": termios.PARENB, "O": termios.PARENB | termios.PARODD}[source.parity]
-    control |= termios.CSTOPB if source.stop == 2 else 0
+    control = control_of(line, source)
     reading = termios.INPCK | termios.IGNPAR if source.parity != "N" else termios.IGNBRK
     speed = getattr(termios, f"B{source.baud}")
     signs = termios.tcgetattr(line)[6]
     signs[termios.VMIN], signs[termios.VTIME] = 1, 0
     termios.tcsetattr(line, termios.TCSANOW, [reading, 0, control, 0, speed, speed, signs])
+    need_kept(control, termios.tcgetattr(line)[2])
 
 
 def open_line(source: Source) -> int:

@@ -110,8 +110,28 @@ class Texts(unittest.TestCase):
         self.assertIsNone(followed_of(BOOKS, "third"))
 
 
+# What a book begins with.
+HEADER = b"AQHBOOK2\x08" + bytes(SLOT - 9)
+
+
 class Rows(unittest.TestCase):
     """A book's file."""
+
+    def test_a_file_that_is_no_book(self) -> None:
+        with tempfile.TemporaryDirectory() as folder:
+            path = os.path.join(folder, "book")
+            for content in (b"row,act\n", bytes(SLOT), b"AQHBOOK1" + bytes(88)):
+                with open(path, "wb") as book:
+                    book.write(content)
+                with self.subTest(content=content), self.assertRaises(ValueError) as caught:
+                    BookRows(path).read()
+                self.assertIn("is no book", str(caught.exception))
+            for content in (b"", HEADER[:4], HEADER):
+                with open(path, "wb") as book:
+                    book.write(content)
+                rows = BookRows(path)
+                rows.read()
+                self.assertEqual(rows.rows, 0)
 
     def test_rows_as_they_come(self) -> None:
         with tempfile.TemporaryDirectory() as folder:
@@ -120,7 +140,7 @@ class Rows(unittest.TestCase):
             rows = BookRows(path)
             for count in range(1, 5):
                 with open(path, "wb") as book:
-                    book.write(bytes(SLOT) + b"".join(slots[:count]) + slot(count + 1, 6, gate=0))
+                    book.write(HEADER + b"".join(slots[:count]) + slot(count + 1, 6, gate=0))
                 rows.read()
                 # the last open one may still be replaced
                 self.assertEqual(rows.rows, count - 1)
@@ -132,7 +152,7 @@ class Rows(unittest.TestCase):
         with tempfile.TemporaryDirectory() as folder:
             path = os.path.join(folder, "book")
             with open(path, "wb") as book:
-                book.write(bytes(SLOT) + slot(1, 1) + slot(2, 1) + slot(9, 6, 1) + b"\x01cut")
+                book.write(HEADER + slot(1, 1) + slot(2, 1) + slot(9, 6, 1) + b"\x01cut")
             rows = BookRows(path)
             rows.read()
             self.assertEqual((rows.rows, rows.packs), (1, {}))
@@ -242,7 +262,7 @@ class Following(unittest.TestCase):
         ]
         rows = b"".join(slot(number, 1) for number in range(1, 6))
         with open(str(self.table["file"]), "wb") as book:
-            book.write(bytes(SLOT) + rows)
+            book.write(HEADER + rows)
         watch = Watch(watched_of(self.table))
         with contextlib.redirect_stderr(io.StringIO()) as errors:
             said = self.numbers(watch.take())

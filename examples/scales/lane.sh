@@ -6,12 +6,14 @@
 # TABLE names the table by which `hall-adapter weights` reads the scale's lines (`hall-adapter
 # devices` has them all). It waits until the hall reads from the lane's pipe, and then keeps the
 # pipe open: a lane whose pipe ends is done until the hall starts again. Weights that come while no
-# hall reads are dropped. ADAPTER names another hall-adapter.
+# hall reads are dropped. ADAPTER names another hall-adapter. Status 2: TABLE is none.
 set -u
 here=$(dirname "$0")
 device=$1 table=$2 cell=$3
 adapter=${ADAPTER:-$here/../../adapters/hall-adapter}
 [ -x "$adapter" ] || adapter=hall-adapter
+# a table that is none mustn't end the lane
+said=$("$adapter" weights "$table" </dev/null 2>&1) || { echo "$said" >&2; exit 2; }
 # a scale that is pulled out hangs up
 trap '' PIPE HUP
 while :; do
