@@ -20,7 +20,8 @@ from archive_room import Room, wait
 from browser import Browser
 from clients import need
 from front_room import Front, run
-from screen_pages import LANGUAGES, Faults, look, open_page, set_language
+from screen_pages import LANGUAGES, Faults, look, set_language
+from screen_sizes import check_small
 
 from hall_archive import evidence, store
 from hall_archive.acts import Acts
@@ -142,7 +143,7 @@ def look_at_all(place, pictures):
             ("sheet/R1", ".sh-print", "archive sheet"),
             ("evidence", "#evidence table", "archive evidence"),
         ):
-            open_page(place.anna, page, selector)
+            check_small(place.anna, page, selector)
             look(place.anna, name, language, faults, pictures)
     set_language(place.anna, "en")
     print(f"evidence: {faults.tell()} views of what an archive adds, no fault", flush=True)

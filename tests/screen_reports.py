@@ -19,6 +19,7 @@ from front_room import run, wait_until
 from screen_pages import (LANGUAGES, LONG, LONG_PRODUCT, SETTINGS, Faults, look, open_page,
                           set_language)
 from screen_room import Room, good, grams, weighing
+from screen_sizes import check_small
 
 from hall_archive import store
 from hall_archive.__main__ import main as archive
@@ -192,6 +193,8 @@ def run_reports(program, folder, pictures):
             set_language(browser, language)
             for part in (look_at_reports, look_at_search, look_at_old):
                 part(browser, language, faults, pictures)
+            check_small(browser, "reports", "#reports .choice")
+            check_small(browser, "search", "#search .s-found table")
             print(f"screen: reports, search and old books looked at in {language}", flush=True)
         complaints = browser.complaints()
     finally:

@@ -107,6 +107,19 @@ def check_size(browser, language):
               f" sent{more}", flush=True)
 
 
+def check_small(browser, page, selector):
+    """A page of the archive, or one that has more with it, by itself."""
+    browser.driver.get("about:blank")
+    open_page(browser, page, selector)
+    # what the archive adds comes a moment later
+    time.sleep(1)
+    size, sent, elsewhere = loaded(browser)
+    need(10_000 < size <= ALL_BYTES and sent <= ALL_SENT and not elsewhere,
+         f"the page {page} loads {size} bytes, {sent} as sent, of elsewhere {elsewhere}")
+    print(f"screen: with an archive {page.split('/')[0]} loads {size} bytes, {sent} as sent",
+          flush=True)
+
+
 # A part that has the key's focus, by its id where it has one: a slider's words change as packs
 # come.
 NAMED = "const named = (one) => one.id || one.outerHTML.slice(0, 90);"

@@ -9,7 +9,6 @@ export default {
   silentShort: "keine",
   idleShort: "steht",
   waitsShort: "keine Charge",
-  fullShort: "Buch voll",
   rowsLeft: "noch {left} Zeilen",
   rowsAtMost: "höchstens noch {left} Zeilen",
   forecastNote: "Vorschau: die drei Prüfungen aller Packungen, wie das Urteil jetzt wäre.",

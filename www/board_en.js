@@ -9,7 +9,6 @@ export default {
   silentShort: "no pack",
   idleShort: "idle",
   waitsShort: "no batch",
-  fullShort: "book full",
   rowsLeft: "{left} rows left",
   rowsAtMost: "at most {left} rows left",
   forecastNote: "Forecast: the three checks of all packs, as the verdict would be now.",

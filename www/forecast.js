@@ -5,33 +5,18 @@
 // A batch is what its sheet says: `population` packs with `net` mg in all, `nonstandard` and
 // `inadequate` of them, a nominal `quantity` in mg or microlitres at a `density`.
 
-import { LEAST_PLANNED, MOST_PACKS, ONE_IN, UNIT_DENSITY, allowedOf } from "./rules.js";
+import { LEAST_PLANNED, MOST_PACKS, ONE_IN, UNIT_DENSITY, allowedOf, failsOf, lackOf }
+  from "./rules.js";
 
 // For so many packs is said what they would have to weigh.
 export const NEXT_PACKS = 100;
 
 const MILLION = 1_000_000n;
 
-// What the nets lack of the nominal quantities in all, in millionths of a milligram; negative where
-// they have more.
-function lackOf({ population, net, quantity, density = UNIT_DENSITY }) {
-  return BigInt(population) * BigInt(density) * BigInt(quantity) - MILLION * BigInt(net);
-}
-
 // A quotient rounded upwards, also of a negative number.
 function upwards(over, under) {
   const whole = over / under;
   return Number(over % under > 0n ? whole + 1n : whole);
-}
-
-// The words of the packers' part of the verdict that would fail, in its order.
-export function failsOf(batch) {
-  const fails = [];
-  if (batch.population === 0) return fails;
-  if (lackOf(batch) > 0n) fails.push("average");
-  if (ONE_IN * batch.nonstandard > batch.population) fails.push("allowance");
-  if (batch.inadequate > 0) fails.push("inadequate");
-  return fails;
 }
 
 // What the next packs would have to weigh each, in whole mg, so that the average holds.

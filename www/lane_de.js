@@ -28,7 +28,6 @@ export default {
   packsThere: "Packungen von 10\u202f000",
   lightOf: "Untermaß von erlaubt",
   overNominal: "Mehr als Nennmenge",
-  noneYet: "Noch keine Packung",
   whichLane: "Welche Linie ist das?",
   whichHint: "Dieser Browser behält es. Bei einer Linie, die wiegt, steht die Charge.",
   voidLast: "Packung {pack} streichen",

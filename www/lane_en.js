@@ -27,7 +27,6 @@ export default {
   packsThere: "Packs of 10\u202f000",
   lightOf: "Non-standard of allowed",
   overNominal: "Average over nominal",
-  noneYet: "No pack yet",
   whichLane: "Which lane is this?",
   whichHint: "This browser keeps it. A lane that weighs has its batch beside it.",
   voidLast: "Void pack {pack}",

@@ -50,6 +50,22 @@ export function classOf(net, { t1, t2 }) {
 
 export const allowedOf = (packs) => Math.floor(packs / ONE_IN);
 
+// What the nets lack of the nominal quantities in all, in millionths of a milligram; negative where
+// they have more.
+export function lackOf({ population, net, quantity, density = UNIT_DENSITY }) {
+  return BigInt(population) * BigInt(density) * BigInt(quantity) - MILLION * BigInt(net);
+}
+
+// The words of the packers' part of the verdict that would fail, in its order.
+export function failsOf(batch) {
+  const fails = [];
+  if (batch.population === 0) return fails;
+  if (lackOf(batch) > 0n) fails.push("average");
+  if (ONE_IN * batch.nonstandard > batch.population) fails.push("allowance");
+  if (batch.inadequate > 0) fails.push("inadequate");
+  return fails;
+}
+
 // The plan of the reference test for so many packs; `k` are thousandths.
 export function planOf(packs, mode = "keep") {
   const plan = (first, c1, r1, second, c2, r2, means, k) =>

@@ -6,14 +6,13 @@
 import * as office from "./office.js";
 import { CODE, addWords, say, time, word } from "./words.js";
 import { askArchive } from "./archived.js";
-import { allowedOf, limitsOf } from "./rules.js";
+import { allowedOf, failsOf, limitsOf } from "./rules.js";
 import { contentsCheck } from "./sample.js";
 import { count, day, fixed, grams, nominalOf, percent } from "./numbers.js";
 import { icon, loadStyles, make, whenSized } from "./page.js";
 import { notice } from "./parts.js";
 import { BatchPage } from "./loader.js";
 import { drawChart } from "./chart.js";
-import { failsOf } from "./forecast.js";
 import { measuredOf } from "./measured.js";
 import { readPaper } from "./paper.js";
 import { samplesMeasured, samplesOfPaper, tareOf, testOf } from "./reference.js";

@@ -52,7 +52,6 @@ export default {
   packNo: "Nr.",
   lightMark: "▼ unter T1 ({t1} g): fehlerhaft. Getönt: zählt für den Mittelwert.",
   tares: "Taren, die für ihre Packungen gelten",
-  tareDay: "{day}: {tare} g",
   tareSince: "{tare} g ab Packung {pack}",
   tareNote: "Wie sie jetzt sind; eine berichtigte hat ihre Packungen neu beurteilt.",
   outs: "Ausgeschleuste und gestrichene Packungen: {count}",

@@ -51,7 +51,6 @@ export default {
   packNo: "pack",
   lightMark: "▼ below T1 ({t1} g): defective. Shaded: counts for the mean.",
   tares: "Tares in force for its packs",
-  tareDay: "{day}: {tare} g",
   tareSince: "{tare} g from pack {pack} on",
   tareNote: "As they now are; a corrected one judged its packs anew.",
   outs: "Rejected and voided packs: {count}",
