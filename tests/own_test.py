@@ -240,6 +240,23 @@ def refusals(folder):
         file.write(form)
     _, errors, status = inspect(["judge", f"{folder}/hand"])
     want("a form without weights", (status, "needs a weight" in errors), (2, True))
+    weighed = form.replace("pack 6", "pack 6 261").replace("pack 7", "pack 7 260")
+    for spoiled, reason in (
+        (weighed.replace("# tare 10.000\n", "", 1), "`# tare` before it"),
+        (weighed.replace("# tare 10.000", "# tare "), "not a quantity"),
+        (weighed.replace("mode keep", "mode kepe"), "the form's mode is keep or destroy"),
+        (weighed.replace("stock 2", "stock"), "no whole line stock"),
+        (weighed.replace("260", "26O"), "not a quantity"),
+        (weighed.replace("pack 6 261\n", ""), "the plan wants 2 and 0 packs"),
+        ("", "no whole line test"),
+    ):
+        with open(f"{folder}/hand", "w", encoding="utf-8") as file:
+            file.write(spoiled)
+        _, errors, status = inspect(["judge", f"{folder}/hand"])
+        want(f"a spoiled form {errors}", (status, reason in errors), (2, True))
+    for register in ("", "batch MORNING\n", REGISTER.replace("gross", "weight")):
+        _, errors, status = inspect(["draw", "A", "1", "250g"], register)
+        want("no register", (status, "isn't the register" in errors), (2, True))
 
 
 def main():
