@@ -2,6 +2,7 @@
 hours since then, in UTC; the hall's clock has a zone."""
 
 from datetime import datetime, timedelta, tzinfo
+from itertools import accumulate, islice
 from typing import NamedTuple
 
 from hall_archive.report_settings import Shift
@@ -80,14 +81,13 @@ def ends(period: Period, zone: tzinfo) -> tuple[int, int]:
 
 
 def spans(period: Period, shifts: tuple[Shift, ...], zone: tzinfo) -> list[Span]:
-    """The shifts that begin on the days of a period, each up to the next one."""
-    begins = [
-        (f"{day_text(day)} {shift.name}", quarter_at(day, shift.minute, zone))
-        for day in range(period.first, period.last + 2)
-        for shift in shifts
-    ]
-    found: list[Span] = []
-    for (key, low), (_, high) in zip(begins, begins[1:], strict=False):
-        if len(found) < (period.last - period.first + 1) * len(shifts):
-            found.append(Span(key, low, high))
-    return found
+    """The shifts that begin on the days of a period, each up to the next one. One whose hours a
+    changing clock leaves out is empty."""
+    days = range(period.first, period.last + 2)
+    keys = [f"{day_text(day)} {shift.name}" for day in days for shift in shifts]
+    lows = [quarter_at(day, shift.minute, zone) for day in days for shift in shifts]
+    # none begins after the next one
+    ordered = list(accumulate(reversed(lows), lambda after, low: min(after, low)))[::-1]
+    wanted = (period.last - period.first + 1) * len(shifts)
+    found = zip(keys, ordered, ordered[1:], strict=False)
+    return [Span(key, low, high) for key, low, high in islice(found, wanted)]

@@ -18,19 +18,19 @@ from hall_archive.sums import QUARTER, UNKNOWN
 LISTED = 100
 HOURLESS = "hour unknown"
 SUMS = """
-    SELECT {key}, q.book, q.day, o.product, o.nominal, o.density, q.lane, q.signal, q.pile,
+    SELECT {place}, q.book, q.day, o.product, o.nominal, o.density, q.lane, q.signal, q.pile,
     sum(q.count), sum(q.gross), sum(q.net), sum(q.square), sum(q.short), sum(q.poor),
     sum(q.count * o.mass), sum(CASE WHEN q.quarter > 0 THEN q.count ELSE 0 END),
     min(q.first), max(q.last)
     FROM {source} JOIN opening o ON o.book = q.book AND o.batch = q.batch
     WHERE {terms} GROUP BY 1, 2, 3, 4, 5, 6, 7, 8, 9"""
 PACES = """
-    SELECT {key}, q.book, q.day, o.product, o.nominal, o.density, q.lane,
+    SELECT {place}, q.book, q.day, o.product, o.nominal, o.density, q.lane,
     sum(q.running), sum(q.stops), sum(q.stopped)
     FROM {source} JOIN opening o ON o.book = q.book AND o.batch = q.batch
     WHERE {terms} GROUP BY 1, 2, 3, 4, 5, 6, 7"""
 CLOSED = """
-    SELECT {key}, q.book, q.row, q.day, o.batch, o.name, o.product, o.nominal, o.density, b.verdict
+    SELECT {place}, q.book, q.row, q.day, o.batch, o.name, o.product, o.nominal, o.density, b.verdict
     FROM {source} JOIN opening o ON o.book = q.book AND o.batch = q.batch
     JOIN batch b ON b.book = q.book AND b.row = q.batch
     WHERE {terms} ORDER BY q.book, q.row"""
@@ -105,8 +105,7 @@ class Reports(Books):
         """What is asked of the database: by days, or by the spans of shifts, and behind these what
         has no hour."""
         asked = report.asked
-        books = f"q.book IN ({', '.join(map(str, report.sources))})"
-        terms = [books]
+        terms = [f"q.book IN ({', '.join(map(str, report.sources))})"]
         values: dict[str, Any] = {}
         if asked.product:
             terms.append("o.product = :product")
@@ -114,33 +113,33 @@ class Reports(Books):
         first, last = asked.period
         days = [*terms, f"q.day >= {first}", f"q.day <= {last}"]
         if asked.by != "shift":
-            return [Part("''", "{table} q", days, values)]
+            return [Part([""], "0", "{table} q", days, values)]
         shifts = spans(asked.period, report.settings.shifts, report.settings.zone)
-        joined = f"span JOIN {{table}} q ON {books} AND q.quarter >= low AND q.quarter < high"
+        by_shifts = of_spans if self.is_sqlite else of_buckets
         hourless = [*days, f"q.quarter = {UNKNOWN}"]
         return [
-            Part("span.key", joined, terms, values, shifts),
-            Part(f"'{HOURLESS}'", "{table} q", hourless, values),
+            by_shifts(shifts, terms, values),
+            Part([HOURLESS], "0", "{table} q", hourless, values),
         ]
 
     def fill(self, report: "Report", part: "Part") -> None:
         """Adds the packs, lanes and closings of a part."""
         of_lane = [f"q.lane = {report.asked.lane}"] if report.asked.lane else []
         for row in self.ask(part.statement(SUMS, "quarter", of_lane), **part.values):
-            key, book, day, product, *more = row
+            place, book, day, product, *more = row
             goods, sums = Goods(product, *map(int, more[:2])), map(int, more[2:])
             source = report.sources[book]
-            report.add(key, Packs(source.hall, source.name, day, goods, *sums))
+            report.add(part.names[place], Packs(source.hall, source.name, day, goods, *sums))
         for row in self.ask(part.statement(PACES, "pace", of_lane), **part.values):
-            key, book, day, product, *more = row
+            place, book, day, product, *more = row
             goods, sums = Goods(product, *map(int, more[:2])), map(int, more[2:])
             source = report.sources[book]
-            report.run(key, Ran(source.hall, source.name, day, goods, *sums))
+            report.run(part.names[place], Ran(source.hall, source.name, day, goods, *sums))
         for row in self.ask(part.statement(CLOSED, "closing", []), **part.values):
-            key, book, place, day, batch, name, product, nominal, density, verdict = row
-            goods = Goods(product, int(nominal), density)
+            place, book, closing, day, batch, name, product, nominal, density, verdict = row
+            goods, key = Goods(product, int(nominal), density), part.names[place]
             source = report.sources[book]
-            report.close(Closed(key, source, place, day, batch, name, goods, verdict))
+            report.close(Closed(key, source, closing, day, batch, name, goods, verdict))
 
     def fill_batches(self, report: "Report") -> None:
         """How many packs the closed batches have that are listed, and their nets."""
@@ -161,22 +160,38 @@ class Reports(Books):
 
 
 class Part(NamedTuple):
-    """A question: what a line is named by, where it is asked, what has to hold, and the spans."""
+    """A question: names of lines, which of them sums are of (its place, as SQL), where it is asked,
+    what has to hold, and what the statement begins with."""
 
-    key: str
+    names: list[str]
+    place: str
     source: str
     terms: list[str]
     values: dict[str, Any]
-    shifts: list[Span] = []
+    begins: str = ""
 
     def statement(self, text: str, table: str, more: list[str]) -> str:
         terms = " AND ".join(self.terms + more)
         source = self.source.format(table=table)
-        asked = text.format(key=self.key, source=source, terms=terms)
-        if not self.shifts:
-            return asked
-        rows = ", ".join(f"('{one.key}', {one.low}, {one.high})" for one in self.shifts)
-        return f"WITH span(key, low, high) AS (VALUES {rows}) {asked}"
+        return self.begins + text.format(place=self.place, source=source, terms=terms)
+
+
+def of_spans(shifts: list[Span], terms: list[str], values: dict[str, Any]) -> Part:
+    """By shifts for SQLite: the quarters of each are found in the key of the sums."""
+    rows = ", ".join(f"({place}, {one.low}, {one.high})" for place, one in enumerate(shifts))
+    source = "span JOIN {table} q ON q.quarter >= low AND q.quarter < high"
+    names = [one.key for one in shifts]
+    begins = f"WITH span(place, low, high) AS (VALUES {rows})"
+    return Part(names, "span.place", source, terms, values, begins)
+
+
+def of_buckets(shifts: list[Span], terms: list[str], values: dict[str, Any]) -> Part:
+    """By shifts for PostgreSQL, which would compare each quarter with each shift: the place is
+    found by halves, in one pass over the sums."""
+    bounds = [one.low for one in shifts] + [shifts[-1].high]
+    within = [*terms, f"q.quarter >= {bounds[0]}", f"q.quarter < {bounds[-1]}"]
+    names = [one.key for one in shifts]
+    return Part(names, f"width_bucket(q.quarter, ARRAY{bounds}) - 1", "{table} q", within, values)
 
 
 class Report:

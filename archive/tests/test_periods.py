@@ -51,6 +51,14 @@ class Shifts(unittest.TestCase):
             night = spans(Period(day, day), SHIFTS, BERLIN)[-1]
             self.assertEqual(night.high - night.low, hours * 4, text)
 
+    def test_a_shift_that_the_clock_leaves_out(self) -> None:
+        # at two the clock goes to three, so half past two isn't there
+        shifts = (Shift("early", 0), Shift("short", 150), Shift("late", 180))
+        day = day_of("2026-03-29")
+        early, short, late = spans(Period(day, day), shifts, BERLIN)
+        self.assertEqual((early.high - early.low, short.high - short.low), (2 * 4, 0))
+        self.assertEqual((short.high, late.low), (late.low, day * 96 + 4))
+
     def test_no_gap(self) -> None:
         found = spans(Period(day_of("2026-03-01"), day_of("2026-04-30")), SHIFTS, BERLIN)
         self.assertEqual(len(found), 61 * 3)
