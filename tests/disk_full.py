@@ -9,8 +9,8 @@ import sys
 import time
 
 from book import Book
-from clients import (FIRST_DESK, FIRST_DOOR, OPENING, Caller, Desk, Hall, Lane, drawn_gross,
-                     free_ports, get, need, plan, spell_grams)
+from clients import (FIRST_DESK, FIRST_DOOR, OPENING, PATIENCE, Caller, Desk, Hall, Lane,
+                     drawn_gross, free_ports, get, need, plan, spell_grams)
 from rows import SLOT, digest
 
 program, work, seed = sys.argv[1:]
@@ -208,13 +208,28 @@ def breaks(batch, name, break_it):
     break_it()
     ask_until_it_fails(link)
     ended(hall, lane, link)
-    subprocess.run(["umount", disk], check=True)
-    subprocess.run(["e2fsck", "-p", f"{work}/image"], stdout=subprocess.DEVNULL)
-    subprocess.run(["mount", "-o", "loop,errors=remount-ro", f"{work}/image", disk], check=True)
+    mount_anew()
     book.compare([lane], killed=True)
     book.compare_register()
     print(f"{name}: {len(lane.opened)} packs let out and {len(desk.told)} acts answered in all are"
           f" there; {book.rows} rows")
+
+
+def mount_anew():
+    """Checks and mends the file system as at a machine's start, and mounts it."""
+    image = f"{work}/image"
+    subprocess.run(["umount", disk], check=True)
+    # the loop device is let go a while later; until then it would be checked as one in use
+    until = time.monotonic() + PATIENCE
+    while subprocess.run(["losetup", "-j", image], capture_output=True, check=True).stdout:
+        need(time.monotonic() < until, "the image's loop device is still there")
+        time.sleep(0.02)
+    mended = subprocess.run(["e2fsck", "-p", image], text=True, capture_output=True)
+    need(mended.returncode in (0, 1), f"e2fsck ends with {mended.returncode}: {mended.stdout}")
+    subprocess.run(["mount", "-o", "loop,errors=remount-ro", image, disk], check=True)
+    options = subprocess.run(["findmnt", "-n", "-o", "OPTIONS", disk], text=True,
+                             capture_output=True, check=True).stdout
+    need(options.startswith("rw"), f"it is mounted so: {options.strip()}")
 
 
 def made_read_only():

@@ -20,7 +20,7 @@ set -eu
 here=$(dirname "$(readlink -f "$0")")/..
 seed=${1:-$(date +%s)}
 work=$(mktemp -d)
-trap 'umount "$work/disk" 2>/dev/null || true; rm -rf "$work"' EXIT
+trap 'rm -rf "$work"' EXIT
 
 # HALL names another program to try.
 if [ -z "${HALL:-}" ]; then "$here/hall" run </dev/null >/dev/null; fi
@@ -29,12 +29,13 @@ program=${HALL:-$here/crates/hall_cli/out/hall_cli}
 mkdir "$work/disk" "$work/lanes"
 truncate -s 8M "$work/image"
 mkfs.ext4 -q -m 0 "$work/image"
-if ! mount -o loop,errors=remount-ro "$work/image" "$work/disk"; then
-    echo "disk_full: a loop device can't be mounted here, so nothing was tried" >&2
-    exit 1
-fi
-
-timeout 300 python3 -B "$here/tests/disk_full.py" "$program" "$work" "$seed" || {
+# (a name space of its own: in one that another test makes meanwhile the disk would stay mounted)
+timeout 300 unshare --mount sh -ec '
+    mount -o loop,errors=remount-ro "$2/image" "$2/disk" || {
+        echo "disk_full: a loop device cannot be mounted here, so nothing was tried" >&2
+        exit 1
+    }
+    exec python3 -B "$0" "$@"' "$here/tests/disk_full.py" "$program" "$work" "$seed" || {
     echo "disk_full: failed, with the seed $seed" >&2
     exit 1
 }
