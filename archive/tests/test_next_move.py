@@ -359,7 +359,7 @@ class Waits(unittest.TestCase):
         self.place.doors = [summary(2, 0), summary(2, 0), summary(1, 1), summary(0, 2)]
         self.place.lists = [OPEN, OPEN.replace(" A ", " B "), DAY]
         out = io.StringIO()
-        with redirect_stdout(out), patch.object(next_move.time, "sleep"):
+        with redirect_stdout(out), patch("next_move.time.sleep"):
             Waiting(self.move).until_closed(True)
         said = out.getvalue().splitlines()
         self.assertEqual([line.partition("waits: ")[2] for line in said],
@@ -370,7 +370,7 @@ class Waits(unittest.TestCase):
     def test_of_a_book_at_rest_its_list_decides(self) -> None:
         self.place.lists = [OPEN, DAY]
         out = io.StringIO()
-        with redirect_stdout(out), patch.object(next_move.time, "sleep") as slept:
+        with redirect_stdout(out), patch("next_move.time.sleep") as slept:
             Waiting(self.move).until_closed(True)
         self.assertEqual([one.args[0] for one in slept.call_args_list], [20.0])
 
