@@ -6,7 +6,7 @@ import { MOST_PACKS, limitsOf } from "./rules.js";
 import { CODE, addWords, say, time, word } from "./words.js";
 import { ago, count, grams, mass, nominalOf, quantity } from "./numbers.js";
 import { Follower } from "./follow.js";
-import { packAt } from "./packs.js";
+import { packAt, packs } from "./packs.js";
 import { icon, loadStyles, make, meter, put, shape } from "./page.js";
 import { signalTag } from "./parts.js";
 import { keepText, readText } from "./store.js";
@@ -29,7 +29,8 @@ const PLAN_EVERY = 5_000;
 // How often what is new is asked, in milliseconds: a packer waits for the signal.
 export const every = 400;
 
-const state = { lane: 0, batch: null, unsettled: null, packs: [], rows: 0, sheet: null, askedAt: 0,
+// `last` has the numbers of the last packs.
+const state = { lane: 0, batch: null, unsettled: null, last: [], rows: 0, sheet: null, askedAt: 0,
   since: 0, plan: null, planAt: 0 };
 const follower = new Follower();
 let place;
@@ -39,18 +40,23 @@ let place;
 async function takeRows() {
   const news = await follower.news(MOST_ROWS, ({ lane }) => lane === state.lane);
   if (news.fresh.length) state.since = Date.now();
-  state.packs = [...news.isOther ? [] : state.packs, ...news.fresh].slice(-SHOWN);
+  const fresh = news.fresh.map(({ number }) => number);
+  state.last = [...news.isOther ? [] : state.last, ...fresh].slice(-SHOWN);
   state.rows = news.rows;
-  // a draw or a tare may have changed the packs that are shown
-  if (news.isUnsure || news.isGap) {
-    const asked = await Promise.all(state.packs.map(({ number }) => packAt(number, true)));
-    state.packs = asked.filter((pack) => pack);
-  }
   state.isNew = true;
+  // a draw or a tare may have changed the packs that are shown; others may come meanwhile
+  if (news.isUnsure || news.isGap) {
+    await Promise.all(state.last.map((number) => packAt(number, true)));
+  }
+}
+
+// The last packs, as they now lie.
+function lastPacks() {
+  return state.last.map((number) => packs.get(number)).filter((pack) => pack);
 }
 
 async function askSheet() {
-  const batch = state.batch ?? state.packs.at(-1)?.batch;
+  const batch = state.batch ?? lastPacks().at(-1)?.batch;
   if (!batch) return;
   const isOther = state.sheet?.batch !== batch;
   if (!isOther && (!state.isNew || Date.now() - state.askedAt < SHEET_EVERY)) return;
@@ -71,7 +77,7 @@ async function askPlan() {
 async function ask() {
   await askPlan();
   const { rows, batch, unsettled } = await office.lane(state.lane);
-  if (rows < state.rows) Object.assign(state, { rows: 0, packs: [], sheet: null });
+  if (rows < state.rows) Object.assign(state, { rows: 0, last: [], sheet: null });
   Object.assign(state, { batch, unsettled });
   if (rows !== state.rows) await takeRows();
   await askSheet();
@@ -86,7 +92,7 @@ function gauge(pack, kind, { nominal, t1, t2, error }) {
     Math.round(8 + (Math.max(low, Math.min(high, net)) - low) / (high - low) * 584);
   const name = (net, words) => [shape("path", { class: "g-line", d: `M${across(net)} 34v22` }),
     shape("text", { x: across(net), y: 74, "text-anchor": "middle" }, words)];
-  const before = state.packs.slice(0, -1).map(({ net }) => `M${across(net)} 38v14`).join("");
+  const before = lastPacks().slice(0, -1).map(({ net }) => `M${across(net)} 38v14`).join("");
   return shape("svg", { class: `gauge ${kind}`, viewBox: "0 0 600 80", "aria-hidden": "true" },
     shape("path", { class: "g-rule", d: "M8 45H592" }),
     shape("path", { class: "g-low", d: `M8 45H${across(t1)}` }), name(t2, `T2 ${quantity(t2)}`),
@@ -96,7 +102,7 @@ function gauge(pack, kind, { nominal, t1, t2, error }) {
 }
 
 function draw(kind, sign, told, what, below = []) {
-  const key = JSON.stringify([kind, told, what, state.packs.at(-1)]);
+  const key = JSON.stringify([kind, told, what, lastPacks().at(-1)]);
   if (place.signal.dataset.shown === key) return;
   place.signal.dataset.shown = key;
   place.signal.className = `st-signal ${kind}`;
@@ -107,7 +113,7 @@ function draw(kind, sign, told, what, below = []) {
 
 function putSignal() {
   const late = Date.now() - office.link.at;
-  const pack = state.packs.at(-1);
+  const pack = lastPacks().at(-1);
   if (office.link.at && late > LATE) {
     return draw("offline", "warn", say("OFFLINE"),
       ["", say("offline", { time: ago(late / 1000) })]);
@@ -148,14 +154,15 @@ function putLast() {
     make("td", { className: "right" }, count(pack.number)),
     make("td", { className: "right" }, grams(pack.net, 1)),
     make("td", {}, pack.pile === "voided" ? word("voided") : signalTag(pack.signal)));
-  const empty = Array.from({ length: SHOWN - state.packs.length },
+  const shown = lastPacks();
+  const empty = Array.from({ length: SHOWN - shown.length },
     () => make("tr", {}, make("td", { colSpan: 3 }, "\u00a0")));
   const heads = [["pack", "right"], ["net", "right"], ["signal", ""]]
     .map(([key, side]) => make("th", { scope: "col", className: side }, say(key)));
   place.last.replaceChildren(make("table", {},
     make("caption", { className: "unseen" }, say("lastTen")),
     make("thead", {}, make("tr", {}, heads)),
-    make("tbody", {}, [...state.packs].reverse().map(line), empty)));
+    make("tbody", {}, shown.reverse().map(line), empty)));
 }
 
 function putProgress() {
@@ -189,7 +196,7 @@ function putHead() {
 
 // The last pack that passed and has left the gate: the one at the gate can't be voided yet.
 function voidable() {
-  return [...state.packs].reverse()
+  return lastPacks().reverse()
     .find(({ number, pile }) => pile === "passed" && number !== state.unsettled);
 }
 
@@ -306,7 +313,7 @@ export async function show(about) {
   place.asked = true;
   keepText(KEPT, String(wanted));
   if (wanted !== state.lane) {
-    Object.assign(state, { lane: wanted, packs: [], rows: 0, sheet: null, since: Date.now(),
+    Object.assign(state, { lane: wanted, last: [], rows: 0, sheet: null, since: Date.now(),
       plan: null, planAt: 0 });
     follower.forget();
     buildStation();

@@ -24,7 +24,15 @@ export function atRows(rows) {
   state.rows = rows;
 }
 
+// A pack, asked where it isn't known or is to be asked anew. Where an act moved it meanwhile, the
+// answer may be from before.
 export async function packAt(number, anew = false) {
-  if (anew || !packs.has(number)) packs.set(number, await office.pack(number));
+  if (anew || !packs.has(number)) {
+    const was = packs.get(number)?.pile;
+    const pack = await office.pack(number);
+    const now = packs.get(number)?.pile;
+    if (pack && was && now && now !== was) pack.pile = now;
+    packs.set(number, pack);
+  }
   return packs.get(number);
 }
