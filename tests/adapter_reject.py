@@ -12,6 +12,8 @@ GOOD, LIGHT = 262_000, 230_000
 # Seconds in which a pack is behind the reject, and its gate may open: on a machine where much else
 # runs a program may stand still for some.
 LATEST, WITHIN = 12.0, 30.0
+# Seconds that a pack takes to the reject: it isn't seen there earlier than the line's `earliest`.
+ON_ITS_WAY = 0.05
 
 
 def last_stop(room: Room) -> str | None:
@@ -33,7 +35,7 @@ def check_wrong(program: str, folder: str, packs: int, seed: str) -> None:
     wait_until(lambda: line.metric("hall_line_device_linked") == 1, "the device is there")
     device.pack(LIGHT)
     wait_until(lambda: line.metric("hall_line_packs_total", "reject") == 1, "a reject")
-    time.sleep(0.05)
+    time.sleep(ON_ITS_WAY)
     device.rejected()
     wait_until(lambda: line.metric("hall_line_rejects_confirmed_total") == 1, "it is confirmed")
     need(line.metric("hall_line_stopped") == 0, f"the gate is stopped: {line.said()}")
@@ -82,6 +84,7 @@ def check_escaped(program: str, folder: str, packs: int, seed: str) -> None:
     for counter in (1, 2):
         way.send(garvens(counter, LIGHT))
         wait_until(lambda: line.metric("hall_line_packs_total", "reject") == counter, "a reject")
+        time.sleep(ON_ITS_WAY)
         os.write(photocell, b"edge\n")
         wait_until(
             lambda: line.metric("hall_line_rejects_confirmed_total") == counter,
