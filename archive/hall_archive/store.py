@@ -33,6 +33,8 @@ from hall_archive.taking import Cursor, Taken, Unkept
 MIGRATIONS = os.path.join(os.path.dirname(os.path.abspath(__file__)), "migrations")
 # Seconds that a writer of SQLite waits for another.
 BUSY = 30
+# Threads of SQLite that sort what a report adds up, beside the one that reads.
+SORTERS = 3
 # Rows that are read from the database at once.
 CHUNK = 8_192
 PackFields = tuple[int, int, int, int, int, int]
@@ -54,7 +56,12 @@ def open_engine(url: Any, writes: bool = False) -> Any:
         @event.listens_for(engine, "connect")  # type: ignore[misc, no-untyped-call]
         def connected(link: Any, _: Any) -> None:
             link.isolation_level = None
-            for pragma in ("journal_mode = WAL", "synchronous = FULL", f"busy_timeout = {BUSY}000"):
+            for pragma in (
+                "journal_mode = WAL",
+                "synchronous = FULL",
+                f"busy_timeout = {BUSY}000",
+                f"threads = {SORTERS}",
+            ):
                 link.execute(f"PRAGMA {pragma}")
 
         @event.listens_for(engine, "begin")  # type: ignore[misc, no-untyped-call]
