@@ -17,18 +17,20 @@ TERMS = {
     "person": "p.name = :person",
 }
 INDEXES = ("batch", "product", "kind")
-# A page of acts first: the hours of their rows are looked up for them alone.
-ACTS = """
+# A page of acts first: the hours of their rows are looked up for them alone, each by the key of
+# the answers (a join would let PostgreSQL read all answers of a book).
+HOUR = """(SELECT {column} FROM answer WHERE book = :book AND upto >= f.row
+        ORDER BY upto LIMIT 1)"""
+ACTS = f"""
     SELECT f.row, f.kind, f.batch, f.product, f.line, f.person, f.reason,
-    coalesce(f.low, h.low) AS low, coalesce(f.high, h.high) AS high
+    coalesce(f.low, {HOUR.format(column="low")}) AS low,
+    coalesce(f.high, {HOUR.format(column="high")}) AS high
     FROM (
         SELECT a.row, a.kind, b.name AS batch, a.product, a.line, p.name AS person, p.reason,
-        p.low, p.high FROM {acts}
+        p.low, p.high FROM {{acts}}
         LEFT JOIN batch b ON b.book = a.book AND b.row = a.batch
-        WHERE {terms} ORDER BY a.row LIMIT :page
+        WHERE {{terms}} ORDER BY a.row LIMIT :page
     ) AS f
-    LEFT JOIN answer h ON h.book = :book AND h.upto = (
-        SELECT min(upto) FROM answer WHERE book = :book AND upto >= f.row)
     ORDER BY f.row"""
 # Where acts come from: all of them, or those of a person.
 ALL = "act a {hint} LEFT JOIN person p ON p.book = a.book AND p.row = a.row"
